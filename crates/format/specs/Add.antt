@@ -1,0 +1,76 @@
+-- Add: one more sector after the last.
+use Prim.Native.Nat.{ℕ, suc, _+_, _*_, _%_}
+use mathlib.Core.Bool.{Bool, true, false, _&&_}
+use mathlib.Core.List.{List, [], _∷_, _++_}
+use lib.ListN.{length, take, drop, replicate}
+use lib.Dec.{leb, eqb}
+use Rattle.crc.specs.Check.{pick}
+use Rattle.format.specs.Answer.{lentWrong, sectorRepeated, sectorMissing, wantedWrong}
+use Rattle.format.specs.Judged.{Judged, good, refused, then, require}
+use Rattle.format.specs.Lent.{lentForReading, cells}
+use Rattle.format.specs.Flag.{condition}
+use Rattle.format.specs.Address.{Address}
+use Rattle.format.specs.Home.{Home}
+use Rattle.format.specs.Block.{blockEnd}
+use Rattle.format.specs.Sector.{Sector, openingLength}
+use Rattle.format.specs.Accept.{Placed, Accepted, acceptCells}
+use Rattle.format.specs.Written.{gapAfter, writtenBehind, Pair, asPair}
+use Rattle.format.specs.Blank.{contentRight}
+
+-- Both pairs are lent within the rule: the read one, and the written one of the same L.
+unfoldable pub bothLent : List ℕ → List ℕ → ℕ → ℕ → Bool
+bothLent t m l k = lentForReading t m && (eqb l (length t) && eqb k (length t))
+
+-- The place at which the data block of a placed sector ends.
+unfoldable pub endOf : Placed → ℕ
+endOf x =
+    let o = openingLength (x .sector .first) in
+    x .place + o + blockEnd (drop o (x .span))
+
+-- The sectors from the leftmost that carries S on; none where no sector does.
+unfoldable pub fromNumber : ℕ → List Placed → List Placed
+fromNumber s [] = []
+fromNumber s (x ∷ xs) = let r = fromNumber s xs in pick (eqb (x .sector .number) s) (x ∷ xs) r
+
+-- 13 where a sector carries S already, with its place.
+unfoldable pub judgeAbsent : List Placed → Judged (Unit {0})
+judgeAbsent [] = good tt
+judgeAbsent (x ∷ xs) = refused (sectorRepeated (x .place))
+
+-- The flag of the sector in position i > 0: B8 by its position, B7 as given, B2 B1 as in home.
+unfoldable pub addedFlag : ℕ → ℕ → ℕ → ℕ
+addedFlag f i b7 = i % 2 * 128 + b7 * 64 + condition f
+
+-- The new sector, in position i behind the sector x, whose C and H it shares.
+unfoldable pub addedSector : Home → ℕ → Placed → ℕ → ℕ → List ℕ → List ℕ → Sector
+addedSector h i x b7 s key body =
+    record {
+      first = false;
+      flag = addedFlag (h .flag) i b7;
+      address = x .sector .address;
+      number = s;
+      keyBytes = key;
+      dataBytes = body;
+    }
+
+module _ (gap : ℕ → ℕ → ℕ) where
+  -- The track c up to the end of the last of its sectors (there is always one), that block's first-written gap, and the new sector;
+  -- the sectors at hand start in position i of the track.
+  unfoldable pub addedTo : List ℕ → Home → ℕ → ℕ → ℕ → List ℕ → List ℕ → List Placed → Judged (List ℕ)
+  addedTo c h i b7 s key body [] = refused sectorMissing
+  addedTo c h i b7 s key body (x ∷ []) =
+      writtenBehind gap (take (endOf x) c ++ replicate (gapAfter gap (x .sector)) 0xFF) (length c) (addedSector h (suc i) x b7 s key body ∷ [])
+  addedTo c h i b7 s key body (x ∷ y ∷ xs) = addedTo c h (suc i) b7 s key body (y ∷ xs)
+
+  -- The cells of a track: its own answer, 14, 13, 15.
+  unfoldable pub addCells : List ℕ → ℕ → ℕ → List ℕ → List ℕ → Judged (List ℕ)
+  addCells c b7 s key body =
+      then (acceptCells c) (λ a.
+      require (leb b7 1 && contentRight key body) wantedWrong
+      (then (judgeAbsent (fromNumber s (a .sectors))) (λ _.
+      addedTo c (a .home) 0 b7 s key body (a .sectors))))
+
+  -- 1 first; the written pair has the lengths l and k.
+  unfoldable pub add : List ℕ → List ℕ → ℕ → ℕ → ℕ → ℕ → List ℕ → List ℕ → Judged Pair
+  add t m l k b7 s key body =
+      require (bothLent t m l k) lentWrong (asPair (addCells (cells t m) b7 s key body))

@@ -1,0 +1,78 @@
+-- The answer of a call: its number and its place, with one name for each row of the table.
+use Prim.Native.Nat.{ℕ}
+
+pub record Answer : Type 0 where
+  pub number : ℕ
+  pub place : ℕ
+
+-- The answer with number n and place p.
+abbrev pub answerAt : ℕ → ℕ → Answer
+answerAt n p = record { number = n; place = p }
+
+-- 0: done.
+abbrev pub done : Answer
+done = answerAt 0 0
+
+-- 1: L, another lent length, a mark or the length of a list is out of rule.
+abbrev pub lentWrong : Answer
+lentWrong = answerAt 1 0
+
+-- 2: home opens nowhere in its window, which starts at 23.
+abbrev pub homeMissing : Answer
+homeMissing = answerAt 2 23
+
+-- 3: the check or the closing byte of home at p is wrong.
+abbrev pub homeCheckWrong : ℕ → Answer
+homeCheckWrong p = answerAt 3 p
+
+-- 4: flag, C or H of home at p is out of rule.
+abbrev pub homeFieldsWrong : ℕ → Answer
+homeFieldsWrong p = answerAt 4 p
+
+-- 5: the mark at p stands outside a whole opening, or in one that starts before sector 0's count ends.
+abbrev pub markStray : ℕ → Answer
+markStray p = answerAt 5 p
+
+-- 6: sector 0's count does not open at its place p.
+abbrev pub firstCountMissing : ℕ → Answer
+firstCountMissing p = answerAt 6 p
+
+-- 7: the check or the closing byte of the count at p is wrong.
+abbrev pub countCheckWrong : ℕ → Answer
+countCheckWrong p = answerAt 7 p
+
+-- 8: flag, C or H of the count at p is out of rule.
+abbrev pub countFieldsWrong : ℕ → Answer
+countFieldsWrong p = answerAt 8 p
+
+-- 9: the count at p does not fit its span, or its blocks and the least gap do not.
+abbrev pub spanTooShort : ℕ → Answer
+spanTooShort p = answerAt 9 p
+
+-- 10: opening, check or closing byte of the key at p is wrong.
+abbrev pub keyWrong : ℕ → Answer
+keyWrong p = answerAt 10 p
+
+-- 11: the same of the data block at p, or it is not 00 where DL = 0.
+abbrev pub dataWrong : ℕ → Answer
+dataWrong p = answerAt 11 p
+
+-- 12: no candidate carries S, or Walk has none left.
+abbrev pub sectorMissing : Answer
+sectorMissing = answerAt 12 0
+
+-- 13: the count at p repeats the S of another.
+abbrev pub sectorRepeated : ℕ → Answer
+sectorRepeated p = answerAt 13 p
+
+-- 14: a wanted field is out of rule.
+abbrev pub wantedWrong : Answer
+wantedWrong = answerAt 14 0
+
+-- 15: the last block would end later than L - 13.
+abbrev pub roomMissing : Answer
+roomMissing = answerAt 15 0
+
+-- 16: the pair does not agree, or its first track has flag 11.
+abbrev pub pairWrong : Answer
+pairWrong = answerAt 16 0

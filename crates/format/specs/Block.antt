@@ -1,0 +1,61 @@
+-- The key and the data block of a sector, read from what follows its count's opening.
+use Prim.Native.Nat.{ℕ, _+_}
+use mathlib.Core.Bool.{Bool, true, false, _&&_, _||_}
+use mathlib.Core.List.{List, [], _∷_, _++_}
+use lib.ListN.{length, take, drop}
+use lib.Dec.{leb, eqb}
+use Rattle.crc.specs.Check.{pick}
+use Rattle.format.specs.Opening.{startsWith, plainOpening, closedAfter}
+use Rattle.format.specs.Count.{keyLength, dataLength}
+
+-- The key's opening comes 11 bytes after the count's 12.
+abbrev pub keyOffset : ℕ
+keyOffset = 23
+
+-- What a key of n bytes takes: none, or its opening, information, check, closing byte and the 11 bytes after it.
+unfoldable pub keySize : ℕ → ℕ
+keySize n = pick (eqb n 0) 0 (n + 20)
+
+-- What a data block of n bytes takes: opening, information, check and closing byte; if n = 0 the opening and one 00.
+unfoldable pub dataSize : ℕ → ℕ
+dataSize n = pick (eqb n 0) 7 (n + 9)
+
+-- The data block's opening: 11 bytes after the key, or after the count if KL = 0.
+unfoldable pub dataOffset : List ℕ → ℕ
+dataOffset r = keyOffset + keySize (keyLength r)
+
+-- Where the data block ends.
+unfoldable pub blockEnd : List ℕ → ℕ
+blockEnd r = dataOffset r + dataSize (dataLength r)
+
+-- The least gap after the block: 13 where the span runs to index, else 21.
+unfoldable pub leastGap : Bool → ℕ
+leastGap last = pick last 13 21
+
+-- The blocks and the least gap lie in the span.
+unfoldable pub blocksFit : Bool → List ℕ → Bool
+blocksFit last r = leb (blockEnd r + leastGap last) (length r)
+
+-- A block of n information bytes stands here: opening, information, check and closing byte.
+unfoldable pub blockRight : ℕ → List ℕ → Bool
+blockRight n c = startsWith plainOpening c && closedAfter n (drop 6 c)
+
+-- The information of such a block.
+unfoldable pub blockInfo : ℕ → List ℕ → List ℕ
+blockInfo n c = take n (drop 6 c)
+
+-- The key is right, or there is none.
+unfoldable pub keyRight : List ℕ → Bool
+keyRight r = eqb (keyLength r) 0 || blockRight (keyLength r) (drop keyOffset r)
+
+-- The data block is right; if DL = 0 it is the opening and one 00.
+unfoldable pub dataRight : List ℕ → Bool
+dataRight r =
+    let c = drop (dataOffset r) r in
+    pick (eqb (dataLength r) 0) (startsWith (plainOpening ++ 0x00 ∷ []) c) (blockRight (dataLength r) c)
+
+unfoldable pub keyInfo : List ℕ → List ℕ
+keyInfo r = blockInfo (keyLength r) (drop keyOffset r)
+
+unfoldable pub dataInfo : List ℕ → List ℕ
+dataInfo r = blockInfo (dataLength r) (drop (dataOffset r) r)

@@ -1,0 +1,50 @@
+-- Correct: sector S gets a new key and data.
+use Prim.Native.Nat.{ℕ, _+_}
+use mathlib.Core.Bool.{Bool, true, false, _&&_}
+use mathlib.Core.List.{List, [], _∷_, _++_, map}
+use lib.ListN.{length, take}
+use Rattle.crc.specs.Check.{pick}
+use Rattle.format.specs.Answer.{lentWrong, sectorMissing, wantedWrong}
+use Rattle.format.specs.Judged.{Judged, good, refused, then, require}
+use Rattle.format.specs.Lent.{cells}
+use Rattle.format.specs.Sector.{Sector}
+use Rattle.format.specs.Accept.{Placed, Accepted, accept, acceptCells}
+use Rattle.format.specs.Written.{writtenBehind, Pair, asPair}
+use Rattle.format.specs.Blank.{contentRight}
+use Rattle.format.specs.Add.{bothLent, fromNumber}
+
+-- The sector with a new key and data; flag, C, H and S are kept.
+unfoldable pub withContent : List ℕ → List ℕ → Sector → Sector
+withContent key body s =
+    record {
+      first = s .first;
+      flag = s .flag;
+      address = s .address;
+      number = s .number;
+      keyBytes = key;
+      dataBytes = body;
+    }
+
+-- The sectors of placed ones.
+abbrev pub sectorsOf : List Placed → List Sector
+sectorsOf xs = map (λ x. x .sector) xs
+
+module _ (gap : ℕ → ℕ → ℕ) where
+  -- The track c, of which xs are the sectors from the corrected one on: what stands before its count's opening is copied,
+  -- from there to index all is in first-written form; 12 where there is no such sector.
+  unfoldable pub rewrittenFrom : List ℕ → List ℕ → List ℕ → List Placed → Judged (List ℕ)
+  rewrittenFrom c key body [] = refused sectorMissing
+  rewrittenFrom c key body (x ∷ xs) =
+      writtenBehind gap (take (x .place) c) (length c) (withContent key body (x .sector) ∷ sectorsOf xs)
+
+  -- The cells of a track: its own answer, 14, 12, 15.
+  unfoldable pub correctCells : List ℕ → ℕ → List ℕ → List ℕ → Judged (List ℕ)
+  correctCells c s key body =
+      then (acceptCells c) (λ a.
+      require (contentRight key body) wantedWrong
+      (rewrittenFrom c key body (fromNumber s (a .sectors))))
+
+  -- 1 first; the written pair has the lengths l and k.
+  unfoldable pub correct : List ℕ → List ℕ → ℕ → ℕ → ℕ → List ℕ → List ℕ → Judged Pair
+  correct t m l k s key body =
+      require (bothLent t m l k) lentWrong (asPair (correctCells (cells t m) s key body))

@@ -1,0 +1,63 @@
+-- Find: the key's or the data's information of sector S on any track, sound or damaged.
+use Prim.Native.Nat.{ℕ, _+_}
+use mathlib.Core.Bool.{Bool, true, false}
+use mathlib.Core.List.{List, [], _∷_}
+use lib.ListN.{take, drop}
+use lib.Dec.{eqb}
+use Rattle.crc.specs.Check.{pick}
+use Rattle.format.specs.Answer.{lentWrong, spanTooShort, keyWrong, dataWrong, sectorMissing, sectorRepeated}
+use Rattle.format.specs.Judged.{Judged, good, refused, then, require}
+use Rattle.format.specs.Lent.{lentForReading, cells}
+use Rattle.format.specs.Count.{countNumber, keyLength, dataLength}
+use Rattle.format.specs.Block.{keyOffset, dataOffset, blocksFit, keyRight, dataRight}
+use Rattle.format.specs.Sector.{openingLength}
+use Rattle.format.specs.Candidate.{Candidate, candidates}
+
+pub data Wanted : Type 0 where
+  theKey theData : Wanted
+
+-- A part of the lent track.
+pub record Part : Type 0 where
+  pub start : ℕ
+  pub size : ℕ
+
+-- The part of n bytes from place p on; an empty part may lie anywhere and is put at 0.
+unfoldable pub partAt : ℕ → ℕ → Part
+partAt p n = record { start = pick (eqb n 0) 0 p; size = n }
+
+-- The bytes of a part.
+unfoldable pub partOf : List ℕ → Part → List ℕ
+partOf t x = take (x .size) (drop (x .start) t)
+
+-- The candidates that carry S.
+unfoldable pub carrying : ℕ → List Candidate → List Candidate
+carrying s [] = []
+carrying s (x ∷ xs) = let r = carrying s xs in pick (eqb (countNumber (x .rest)) s) (x ∷ r) r
+
+-- The only one of them: 12 where there is none, 13 with the place of the second where there are more.
+unfoldable pub only : List Candidate → Judged Candidate
+only [] = refused sectorMissing
+only (x ∷ []) = good x
+only (x ∷ y ∷ r) = refused (sectorRepeated (y .place))
+
+-- Where the key of a candidate opens, and where its data block does.
+abbrev pub keyPlace : Candidate → ℕ
+keyPlace x = x .place + openingLength (x .first) + keyOffset
+
+abbrev pub dataPlace : Candidate → ℕ
+dataPlace x = x .place + openingLength (x .first) + dataOffset (x .rest)
+
+-- The part asked for, which alone is opened and checked: 10 for the key, 11 for the data.
+unfoldable pub wantedPart : Wanted → Candidate → Judged Part
+wantedPart theKey x = require (keyRight (x .rest)) (keyWrong (keyPlace x)) (good (partAt (keyPlace x + 6) (keyLength (x .rest))))
+wantedPart theData x = require (dataRight (x .rest)) (dataWrong (dataPlace x)) (good (partAt (dataPlace x + 6) (dataLength (x .rest))))
+
+-- The cells of a track: 12, 13, then 9 for both blocks, then 10 or 11.
+unfoldable pub findCells : ℕ → Wanted → List ℕ → Judged Part
+findCells s w c =
+    then (only (carrying s (candidates c))) (λ x.
+    require (blocksFit (x .last) (x .rest)) (spanTooShort (x .place)) (wantedPart w x))
+
+-- A lent pair: 1 first.
+unfoldable pub find : ℕ → Wanted → List ℕ → List ℕ → Judged Part
+find s w t m = require (lentForReading t m) lentWrong (findCells s w (cells t m))

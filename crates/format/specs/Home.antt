@@ -1,0 +1,49 @@
+-- Home: 14 bytes that start 23 to 37 bytes after index.
+use Prim.Native.Nat.{ℕ, zero, suc, _+_}
+use mathlib.Core.Bool.{Bool, true, false, _&&_}
+use mathlib.Core.List.{List, [], _∷_}
+use lib.ListN.{take, drop, getD}
+use Rattle.crc.specs.Check.{pick}
+use Rattle.format.specs.Answer.{homeMissing, homeCheckWrong, homeFieldsWrong}
+use Rattle.format.specs.Judged.{Judged, good, refused, then, require}
+use Rattle.format.specs.Lent.{bytesOf}
+use Rattle.format.specs.Opening.{startsWith, plainOpening, closedAfter}
+use Rattle.format.specs.Flag.{homeFlagRight}
+use Rattle.format.specs.Address.{Address, addressIn, addressInRange}
+
+-- The first of the n places from p on at which home opens: all six opening bytes agree and are unmarked.
+unfoldable pub homeFrom : ℕ → ℕ → List ℕ → Judged ℕ
+homeFrom zero p c = refused homeMissing
+homeFrom (suc n) p c = let later = homeFrom n (suc p) c in pick (startsWith plainOpening (drop p c)) (good p) later
+
+-- Home's place: the window is the starts 23 to 37.
+unfoldable pub findHome : List ℕ → Judged ℕ
+findHome c = homeFrom 15 23 c
+
+-- The bytes after the opening of home at p: flag, C and H, check and closing byte.
+unfoldable pub homeBytes : ℕ → List ℕ → List ℕ
+homeBytes p c = bytesOf (take 8 (drop (p + 6) c))
+
+pub record Home : Type 0 where
+  pub place : ℕ
+  pub flag : ℕ
+  pub address : Address
+
+unfoldable pub homeAt : ℕ → List ℕ → Home
+homeAt p c = record { place = p; flag = getD (homeBytes p c) 0 0; address = addressIn (homeBytes p c) }
+
+-- Flag, C and H of home are within the rule.
+unfoldable pub homeFieldsRight : Home → Bool
+homeFieldsRight h = homeFlagRight (h .flag) && addressInRange (h .address)
+
+-- Home opens, its check and closing byte are right, and so are its fields: answers 2, 3 and 4.
+unfoldable pub judgeHome : List ℕ → Judged Home
+judgeHome c =
+    then (findHome c) (λ p.
+    require (closedAfter 5 (homeBytes p c)) (homeCheckWrong p)
+    (require (homeFieldsRight (homeAt p c)) (homeFieldsWrong p)
+    (good (homeAt p c))))
+
+-- Sector 0's count opens 11 bytes after home, which has 14.
+abbrev pub firstCountPlace : ℕ → ℕ
+firstCountPlace p = p + 25

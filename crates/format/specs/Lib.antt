@@ -1,0 +1,23 @@
+-- The track format in the order of the scope document: how a track is lent, its layout, what the calls do, the answer numbers.
+pub mod Lent
+pub mod Opening
+pub mod Home
+pub mod Flag
+pub mod Address
+pub mod Count
+pub mod Block
+pub mod Span
+pub mod Sector
+pub mod Accept
+pub mod Listing
+pub mod Candidate
+pub mod Find
+pub mod Walk
+pub mod PairFind
+pub mod Written
+pub mod Blank
+pub mod Add
+pub mod Correct
+pub mod Together
+pub mod Answer
+pub mod Judged

@@ -1,0 +1,46 @@
+-- List: an accepted track's sectors as records for the caller's list.
+use Prim.Native.Nat.{ℕ, _+_}
+use mathlib.Core.Bool.{Bool}
+use mathlib.Core.List.{List, map}
+use lib.ListN.{length}
+use lib.Dec.{leb, eqb}
+use Rattle.crc.specs.Check.{pick}
+use Rattle.format.specs.Answer.{lentWrong}
+use Rattle.format.specs.Judged.{Judged, good, refused, then, require}
+use Rattle.format.specs.Block.{keyOffset, keySize}
+use Rattle.format.specs.Sector.{Sector, openingLength}
+use Rattle.format.specs.Accept.{Placed, accept}
+
+-- A sector record: flag, S, KL, DL and the places of the information, the byte after the block's opening.
+pub record Listed : Type 0 where
+  pub flag : ℕ
+  pub number : ℕ
+  pub keyLength : ℕ
+  pub dataLength : ℕ
+  -- 0 where KL = 0.
+  pub keyPlace : ℕ
+  pub dataPlace : ℕ
+
+-- The place of the first block's information, behind the count's opening, the count, a gap and its own opening.
+abbrev pub firstInfoPlace : Placed → ℕ
+firstInfoPlace x = x .place + openingLength (x .sector .first) + keyOffset + 6
+
+unfoldable pub listed : Placed → Listed
+listed x =
+    let k = length (x .sector .keyBytes) in
+    record {
+      flag = x .sector .flag;
+      number = x .sector .number;
+      keyLength = k;
+      dataLength = length (x .sector .dataBytes);
+      keyPlace = pick (eqb k 0) 0 (firstInfoPlace x);
+      dataPlace = firstInfoPlace x + keySize k;
+    }
+
+-- No track holds more sectors.
+abbrev pub mostSectors : ℕ
+mostSectors = 67
+
+-- The records for a list of n: 1 for a list under 67 before anything else, then Accept's own answers.
+unfoldable pub list : ℕ → List ℕ → List ℕ → Judged (List Listed)
+list n t m = require (leb mostSectors n) lentWrong (then (accept t m) (λ a. good (map listed (a .sectors))))

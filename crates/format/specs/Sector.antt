@@ -1,0 +1,72 @@
+-- A sector, and how it is read from its own span and nothing else.
+use Prim.Native.Nat.{ℕ, zero, suc, _+_}
+use mathlib.Core.Bool.{Bool, true, false}
+use mathlib.Core.List.{List, [], _∷_}
+use lib.ListN.{drop}
+use Rattle.crc.specs.Check.{pick}
+use Rattle.format.specs.Answer.{firstCountMissing, countCheckWrong, countFieldsWrong, spanTooShort, keyWrong, dataWrong}
+use Rattle.format.specs.Judged.{Judged, good, refused, then, require}
+use Rattle.format.specs.Opening.{startsWith, plainOpening}
+use Rattle.format.specs.Address.{Address}
+use Rattle.format.specs.Home.{Home}
+use Rattle.format.specs.Count.{Settled, unsettled, settled, countFlag, countAddress, countNumber, countFits, countClosed, countFieldsRight}
+use Rattle.format.specs.Block.{keyOffset, dataOffset, blocksFit, keyRight, dataRight, keyInfo, dataInfo}
+
+pub record Sector : Type 0 where
+  -- Is it sector 0, whose count opens unmarked?
+  pub first : Bool
+  pub flag : ℕ
+  pub address : Address
+  -- S.
+  pub number : ℕ
+  pub keyBytes : List ℕ
+  pub dataBytes : List ℕ
+
+-- The length of the opening of a count: six bytes in sector 0, else eight.
+abbrev pub openingLength : Bool → ℕ
+openingLength first = pick first 6 8
+
+-- The sector that stands in position 0 of a track is sector 0.
+abbrev pub isFirst : ℕ → Bool
+isFirst zero = true
+isFirst (suc i) = false
+
+-- The sector whose span goes on with r after the count's opening.
+unfoldable pub sectorIn : Bool → List ℕ → Sector
+sectorIn first r =
+    record {
+      first = first;
+      flag = countFlag r;
+      address = countAddress r;
+      number = countNumber r;
+      keyBytes = keyInfo r;
+      dataBytes = dataInfo r;
+    }
+
+-- Sector 0 settles C and H.
+unfoldable pub settle : Settled → Sector → Settled
+settle unsettled s = settled (s .address)
+settle (settled a) s = settled a
+
+-- The count at p, in position i, of which r follows the opening: 9 where it does not fit, then 7, then 8.
+unfoldable pub judgeCount : Home → ℕ → Settled → ℕ → List ℕ → Judged (Unit {0})
+judgeCount h i x p r =
+    require (countFits r) (spanTooShort p)
+    (require (countClosed r) (countCheckWrong p)
+    (require (countFieldsRight h i x r) (countFieldsWrong p)
+    (good tt)))
+
+-- Its blocks, where `last` says that the span runs to index: 9 for them and the least gap, then 10, then 11.
+unfoldable pub readBlocks : Bool → ℕ → Bool → List ℕ → Judged Sector
+readBlocks first p last r =
+    require (blocksFit last r) (spanTooShort p)
+    (require (keyRight r) (keyWrong (p + openingLength first + keyOffset))
+    (require (dataRight r) (dataWrong (p + openingLength first + dataOffset r))
+    (good (sectorIn first r))))
+
+-- The sector in position i whose span is g: 6 where sector 0's count does not open, then its count, then its blocks.
+unfoldable pub readSpan : Home → ℕ → Settled → ℕ → Bool → List ℕ → Judged Sector
+readSpan h zero x p last g =
+    require (startsWith plainOpening g) (firstCountMissing p)
+    (then (judgeCount h 0 x p (drop 6 g)) (λ _. readBlocks true p last (drop 6 g)))
+readSpan h (suc i) x p last g = then (judgeCount h (suc i) x p (drop 8 g)) (λ _. readBlocks false p last (drop 8 g))

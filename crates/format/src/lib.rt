@@ -1,0 +1,1 @@
+// Only definitions: the track format, for the crates above to cite.

@@ -1,0 +1,66 @@
+-- Every row of the table of worked numbers holds.
+use mathlib.Core.Path.{_≡_, refl, ap₂}
+use Prim.Native.Nat.{ℕ}
+use native.Mathlib.Omega.{arith}
+use mathlib.Core.Bool.{Bool, true, false, _&&_}
+use mathlib.Core.List.{List, [], _∷_}
+use lib.Dec.{eqb}
+use borrow.Author.Tests.{eqb-true}
+use Rattle.crc.specs.Check.{digits, coefficients, divisor, bringDown, remainder, checkOf, checkBytes}
+use Rattle.format.specs.Lent.{lengthRight, marksLegal, lentForWriting, lentForReading, cells, bytesOf, marksOf}
+use Rattle.format.specs.Opening.{opens, closing, closedAfter}
+use Rattle.format.specs.Flag.{homeFlagRight, sequenceRight, countFlagRight, namesItself}
+use Rattle.format.specs.Address.{addressIn, addressBytes, addressInRange, sameAddress, addressRight}
+use Rattle.format.specs.Home.{homeFrom, findHome, homeBytes, homeAt, homeFieldsRight, judgeHome}
+use Rattle.format.specs.Count.{countFits, countClosed, countAddressRight, countFieldsRight}
+use Rattle.format.specs.Block.{keySize, dataSize, dataOffset, blockEnd, leastGap, blocksFit, blockRight, blockInfo, keyRight, dataRight, keyInfo, dataInfo}
+use Rattle.format.specs.Span.{unmarkedRun, runsToIndex, spanLength, afterOpening, beforeOpening, laterSpans, spans}
+use Rattle.format.specs.Sector.{sectorIn, settle, judgeCount, readBlocks, readSpan}
+use Rattle.format.specs.Accept.{judgeMarks, readSpans, placedFrom, among, judgeNumbers, acceptCells, accept}
+use Rattle.format.specs.Written.{gapOne, countInfo, writtenBlock, writtenKey, writtenData, countOpening, writtenSector, asPair, gapAfter, reach, writtenSpans, writtenBehind}
+use Rattle.format.specs.Blank.{contentRight, namedBy, blankRight, writtenHead, blankSector, blank}
+use Rattle.format.specs.Add.{bothLent, endOf, fromNumber, judgeAbsent, addedFlag, addedSector, addedTo, addCells, add}
+use Rattle.worked.specs.Tracks.{address, blankOf, twoSectors, acceptOf, numbers, placesIn, places, placesOf, sectorOf, byHand, answerByHand, answerOfZeros}
+use Rattle.worked.specs.Table.{Case, sameNumbers, allHold, EachHolds, starred, further}
+
+both : (a b : Bool) → (a && b) ≡ true → (a ≡ true) × (b ≡ true)
+both true b e = (refl, e)
+both false b e = absurd (let z : _≡_ {A = ℕ} 0 1 = cc in omega arith)
+
+same-equal : (xs ys : List ℕ) → sameNumbers xs ys ≡ true → xs ≡ ys
+unfolding sameNumbers
+same-equal [] [] e = refl
+same-equal [] (y ∷ ys) e = absurd (let z : _≡_ {A = ℕ} 0 1 = cc in omega arith)
+same-equal (x ∷ xs) [] e = absurd (let z : _≡_ {A = ℕ} 0 1 = cc in omega arith)
+same-equal (x ∷ xs) (y ∷ ys) e =
+    let h = both (eqb x y) (sameNumbers xs ys) e in
+    ap₂ (λ (z : ℕ) (zs : List ℕ). z ∷ zs) (eqb-true x y (h .0)) (same-equal xs ys (h .1))
+
+-- A table that passes its test has only rows that hold.
+pub each-holds : (cs : List Case) → allHold cs ≡ true → EachHolds cs
+unfolding allHold
+each-holds [] e = tt
+each-holds (x ∷ cs) e =
+    let h = both (sameNumbers (x .computed) (x .stated)) (allHold cs) e in
+    (same-equal (x .computed) (x .stated) (h .0), each-holds cs (h .1))
+
+tables-pass : (allHold starred && allHold further) ≡ true
+unfolding digits coefficients divisor bringDown remainder checkOf checkBytes
+    lengthRight marksLegal lentForWriting lentForReading cells bytesOf marksOf opens closing closedAfter
+    homeFlagRight sequenceRight countFlagRight namesItself addressIn addressBytes addressInRange sameAddress addressRight
+    homeFrom findHome homeBytes homeAt homeFieldsRight judgeHome countFits countClosed countAddressRight countFieldsRight
+    keySize dataSize dataOffset blockEnd leastGap blocksFit blockRight blockInfo keyRight dataRight keyInfo dataInfo
+    unmarkedRun runsToIndex spanLength afterOpening beforeOpening laterSpans spans sectorIn settle judgeCount readBlocks readSpan
+    judgeMarks readSpans placedFrom among judgeNumbers acceptCells accept
+    gapOne countInfo writtenBlock writtenKey writtenData countOpening writtenSector asPair gapAfter reach writtenSpans writtenBehind
+    contentRight namedBy blankRight writtenHead blankSector blank bothLent endOf fromNumber judgeAbsent addedFlag addedSector addedTo addCells add
+    address blankOf twoSectors acceptOf numbers placesIn places placesOf sectorOf byHand answerByHand answerOfZeros sameNumbers allHold starred further
+tables-pass = refl
+
+-- The starred worked numbers.
+pub starred-hold : EachHolds starred
+starred-hold = each-holds starred (both (allHold starred) (allHold further) tables-pass .0)
+
+-- Those of the numbers 6 to 8 that have no star.
+pub further-hold : EachHolds further
+further-hold = each-holds further (both (allHold starred) (allHold further) tables-pass .1)

@@ -1,0 +1,72 @@
+-- The worked numbers as one table: what the definitions compute beside what the scope document states.
+use mathlib.Core.Path.{_≡_}
+use Prim.Native.Nat.{ℕ}
+use mathlib.Core.Bool.{Bool, true, false, _&&_}
+use mathlib.Core.List.{List, [], _∷_}
+use lib.ListN.{replicate}
+use lib.Dec.{eqb}
+use Rattle.crc.specs.Check.{checkBytes}
+use Rattle.format.specs.Judged.{answerOf}
+use Rattle.worked.specs.Tracks.{address, blankOf, twoSectors, acceptOf, numbers, placesOf, answerByHand, answerOfZeros}
+
+-- A row of the table.
+pub record Case : Type 0 where
+  pub computed : List ℕ
+  pub stated : List ℕ
+
+-- Two lists of numbers are the same.
+unfoldable pub sameNumbers : List ℕ → List ℕ → Bool
+sameNumbers [] [] = true
+sameNumbers [] (y ∷ ys) = false
+sameNumbers (x ∷ xs) [] = false
+sameNumbers (x ∷ xs) (y ∷ ys) = eqb x y && sameNumbers xs ys
+
+-- The test of the whole table.
+unfoldable pub allHold : List Case → Bool
+allHold [] = true
+allHold (x ∷ xs) = sameNumbers (x .computed) (x .stated) && allHold xs
+
+-- Every row holds.
+abbrev pub EachHolds : List Case → Type 0
+EachHolds [] = Unit {0}
+EachHolds (x ∷ xs) = (x .computed ≡ x .stated) × EachHolds xs
+
+-- Numbers 1 to 4: checks. Number 5: the places of both sectors. Number 6: the largest data at L = 3,906, and one byte more.
+unfoldable pub starred : List Case
+starred =
+    record { computed = checkBytes (0x00 ∷ 0x00 ∷ 0x64 ∷ 0x00 ∷ 0x07 ∷ []); stated = 0xFF ∷ 0x9C ∷ [] }
+    ∷ record { computed = checkBytes (replicate 5 0x00); stated = 0xFF ∷ 0xFF ∷ [] }
+    ∷ record { computed = checkBytes (0x80 ∷ 0x00 ∷ 0x64 ∷ 0x00 ∷ 0x07 ∷ 0x01 ∷ 0x00 ∷ 0x00 ∷ 0x50 ∷ []); stated = 0xFE ∷ 0x4C ∷ [] }
+    ∷ record { computed = checkBytes (0x41 ∷ []); stated = 0xFF ∷ 0xBE ∷ [] }
+    ∷ record { computed = checkBytes (0x41 ∷ 0x42 ∷ []); stated = 0xBE ∷ 0xBD ∷ [] }
+    ∷ record { computed = checkBytes (0xC1 ∷ 0xC2 ∷ 0xC3 ∷ []); stated = 0x3D ∷ 0xFD ∷ [] }
+    ∷ record { computed = checkBytes (0x00 ∷ []); stated = 0xFF ∷ 0xFF ∷ [] }
+    ∷ record { computed = placesOf (acceptOf (blankOf 3906 8)); stated = 55 ∷ 84 ∷ 84 ∷ 101 ∷ 122 ∷ [] }
+    ∷ record { computed = placesOf (acceptOf twoSectors); stated = 55 ∷ 84 ∷ 84 ∷ 101 ∷ 122 ∷ 122 ∷ 153 ∷ 176 ∷ 265 ∷ 290 ∷ [] }
+    ∷ record { computed = numbers (answerOf (blankOf 3906 3800)); stated = 0 ∷ 0 ∷ [] }
+    ∷ record { computed = numbers (answerOf (blankOf 3906 3801)); stated = 15 ∷ 0 ∷ [] }
+    ∷ []
+
+-- Numbers 6 to 8 without a star. Number 6: the largest data at L = 3,815 and 4,002, and one byte more.
+-- Number 7: L out of range; home at 22 or 38 only, and at 23 and 37; cylinder 203 or head 10, and 202 and 9.
+-- Number 8: a gap of 20 and 21 before the next opening, of 12 and 13 before index.
+unfoldable pub further : List Case
+further =
+    record { computed = numbers (answerOf (blankOf 3815 3709)); stated = 0 ∷ 0 ∷ [] }
+    ∷ record { computed = numbers (answerOf (blankOf 3815 3710)); stated = 15 ∷ 0 ∷ [] }
+    ∷ record { computed = numbers (answerOf (blankOf 4002 3896)); stated = 0 ∷ 0 ∷ [] }
+    ∷ record { computed = numbers (answerOf (blankOf 4002 3897)); stated = 15 ∷ 0 ∷ [] }
+    ∷ record { computed = answerOfZeros 3814; stated = 1 ∷ 0 ∷ [] }
+    ∷ record { computed = answerOfZeros 3815; stated = 2 ∷ 23 ∷ [] }
+    ∷ record { computed = answerOfZeros 4002; stated = 2 ∷ 23 ∷ [] }
+    ∷ record { computed = answerOfZeros 4003; stated = 1 ∷ 0 ∷ [] }
+    ∷ record { computed = answerByHand 22 (address 100 7) 21 13; stated = 2 ∷ 23 ∷ [] }
+    ∷ record { computed = answerByHand 23 (address 100 7) 21 13; stated = 0 ∷ 0 ∷ [] }
+    ∷ record { computed = answerByHand 37 (address 100 7) 21 13; stated = 0 ∷ 0 ∷ [] }
+    ∷ record { computed = answerByHand 38 (address 100 7) 21 13; stated = 2 ∷ 23 ∷ [] }
+    ∷ record { computed = answerByHand 30 (address 203 7) 21 13; stated = 4 ∷ 30 ∷ [] }
+    ∷ record { computed = answerByHand 30 (address 202 9) 21 13; stated = 0 ∷ 0 ∷ [] }
+    ∷ record { computed = answerByHand 30 (address 100 10) 21 13; stated = 4 ∷ 30 ∷ [] }
+    ∷ record { computed = answerByHand 30 (address 100 7) 20 13; stated = 9 ∷ 55 ∷ [] }
+    ∷ record { computed = answerByHand 30 (address 100 7) 21 12; stated = 9 ∷ 122 ∷ [] }
+    ∷ []

@@ -1,0 +1,76 @@
+-- The tracks of the worked numbers, and what the table reads off them.
+use Prim.Native.Nat.{ℕ, zero, suc, _+_}
+use mathlib.Core.Bool.{Bool, true, false}
+use mathlib.Core.List.{List, [], _∷_, _++_}
+use lib.ListN.{length, take, drop, replicate}
+use Rattle.format.specs.Answer.{Answer}
+use Rattle.format.specs.Judged.{Judged, good, refused, then, answerOf}
+use Rattle.format.specs.Address.{Address, addressBytes}
+use Rattle.format.specs.Block.{keyOffset, dataOffset}
+use Rattle.format.specs.Sector.{Sector, openingLength}
+use Rattle.format.specs.Accept.{Placed, Accepted, acceptCells, accept}
+use Rattle.format.specs.Written.{Pair, gapOne, homeGap, writtenBlock, writtenSector}
+use Rattle.format.specs.Blank.{blank}
+use Rattle.format.specs.Add.{add, endOf}
+
+-- Cylinder c and head h.
+unfoldable pub address : ℕ → ℕ → Address
+address c h = record { cylinder = c; head = h }
+
+-- Cylinder 100, head 7, flag 00, sector 0 without a key and with n bytes of data, on a track of length l.
+unfoldable pub blankOf : ℕ → ℕ → Judged Pair
+blankOf l n = blank l l (address 100 7) 0 (address 0 0) 0 [] (replicate n 0x00)
+
+-- That track with 8 bytes in sector 0, and sector 1 added with KL 3 and DL 80.
+unfoldable pub twoSectors : Judged Pair
+twoSectors = then (blankOf 3906 8) (λ p. add gapOne (p .track) (p .marks) 3906 3906 0 1 (replicate 3 0x41) (replicate 80 0x42))
+
+-- Accept of what was written.
+unfoldable pub acceptOf : Judged Pair → Judged Accepted
+acceptOf j = then j (λ p. accept (p .track) (p .marks))
+
+-- An answer as its number and its place.
+unfoldable pub numbers : Answer → List ℕ
+numbers a = a .number ∷ a .place ∷ []
+
+-- Count's opening, key's or else data block's opening, data block's opening, its end, and where the next sector would open.
+unfoldable pub placesIn : Placed → List ℕ
+placesIn x =
+    let o = openingLength (x .sector .first) in
+    let end = endOf x in
+    let next = end + gapOne (length (x .sector .keyBytes)) (length (x .sector .dataBytes)) in
+    let keyAt = x .place + o + keyOffset in
+    let dataAt = x .place + o + dataOffset (drop o (x .span)) in
+    x .place ∷ keyAt ∷ dataAt ∷ end ∷ next ∷ []
+
+-- Those of all sectors.
+unfoldable pub places : List Placed → List ℕ
+places [] = []
+places (x ∷ xs) = placesIn x ++ places xs
+
+-- Those of an accepted track, or the answer that refuses it.
+unfoldable pub placesOf : Judged Accepted → List ℕ
+placesOf (good a) = places (a .sectors)
+placesOf (refused a) = numbers a
+
+-- A sector without a key and with n zero bytes of data.
+unfoldable pub sectorOf : Bool → ℕ → Address → ℕ → ℕ → Sector
+sectorOf first flag a s n =
+    record { first = first; flag = flag; address = a; number = s; keyBytes = []; dataBytes = replicate n 0x00 }
+
+-- A track by hand: home at p with the address a; sector 0 without a key and with 8 bytes of data, a gap of n bytes; sector 1
+-- without a key and with 80 bytes of data, and a gap of m bytes to index.
+unfoldable pub byHand : ℕ → Address → ℕ → ℕ → List ℕ
+byHand p a n m =
+    replicate p 0x00
+    ++ ((writtenBlock (0x00 ∷ addressBytes a) ++ homeGap)
+    ++ ((writtenSector (sectorOf true 0x00 a 0 8) ++ replicate n 0xFF)
+    ++ (writtenSector (sectorOf false 0x80 a 1 80) ++ replicate m 0xFF)))
+
+-- Accept's answer for such cells, a lent pair's length apart.
+unfoldable pub answerByHand : ℕ → Address → ℕ → ℕ → List ℕ
+answerByHand p a n m = numbers (answerOf (acceptCells (byHand p a n m)))
+
+-- Accept's answer for a pair of l zeros.
+unfoldable pub answerOfZeros : ℕ → List ℕ
+answerOfZeros l = numbers (answerOf (accept (replicate l 0x00) (replicate l 0)))

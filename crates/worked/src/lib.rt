@@ -1,0 +1,1 @@
+// Only computed examples: the worked numbers of the scope document.

@@ -1,0 +1,53 @@
+//! The answers of the calls.
+
+/// What a call answers: a number and the place on the track it speaks of.
+#[derive(Clone, Copy, PartialEq, Eq, Debug)]
+pub struct Answer {
+    pub number: u8,
+    pub place: usize,
+}
+
+/// 0: the call did what was asked.
+pub const DONE: u8 = 0;
+/// 1: a length or a mark value is not allowed.
+pub const BAD_INPUT: u8 = 1;
+/// 2: no home address in its window.
+pub const NO_HOME: u8 = 2;
+/// 3: the home address fails its check or end byte.
+pub const HOME_CHECK: u8 = 3;
+/// 4: flag, cylinder or head of the home address.
+pub const HOME_FIELDS: u8 = 4;
+/// 5: a mark where none may be.
+pub const STRAY_MARK: u8 = 5;
+/// 6: no opening at the count of sector 0.
+pub const NO_COUNT: u8 = 6;
+/// 7: a count fails its check or end byte.
+pub const COUNT_CHECK: u8 = 7;
+/// 8: flag, cylinder or head of a count.
+pub const COUNT_FIELDS: u8 = 8;
+/// 9: count, blocks or least gap exceed the span.
+pub const SPAN: u8 = 9;
+/// 10: a key block is wrong.
+pub const KEY: u8 = 10;
+/// 11: a data block is wrong.
+pub const DATA: u8 = 11;
+/// 12: no such sector, or no further one.
+pub const NOT_FOUND: u8 = 12;
+/// 13: a sector number occurs twice.
+pub const REPEATED: u8 = 13;
+/// 14: a wanted field is not allowed.
+pub const WANTED: u8 = 14;
+/// 15: the sectors do not fit before the last gap.
+pub const FULL: u8 = 15;
+/// 16: the two tracks of a pair do not belong together, or none is allocated.
+pub const PAIR: u8 = 16;
+
+impl Answer {
+    /// The answer of a call that succeeded.
+    pub const OK: Answer = Answer::new(DONE, 0);
+
+    /// An answer about one place.
+    pub const fn new(number: u8, place: usize) -> Answer {
+        Answer { number, place }
+    }
+}

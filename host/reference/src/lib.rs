@@ -1,0 +1,21 @@
+//! A plain implementation of the ISO 3561 track format, from index to index.
+//!
+//! It is written for comparison: short, direct and without any dependency.
+//! A track is given as two byte slices of equal length, the bytes and the marks.
+#![forbid(unsafe_code)]
+
+mod accept;
+pub mod answer;
+pub mod check;
+pub mod generate;
+pub mod layout;
+mod read;
+mod tracklist;
+mod write;
+
+pub use accept::accept;
+pub use answer::Answer;
+pub use layout::Address;
+pub use read::{find, list, pair_find, walk_from, Candidate, Part, Sector, Walk};
+pub use tracklist::tracklist;
+pub use write::{add, blank, correct};

@@ -1,0 +1,365 @@
+//! Generated tracks: sound, damaged, and with wanted fields.
+
+use crate::common::*;
+use reference::generate::*;
+use reference::*;
+use std::collections::BTreeSet;
+
+fn listed(track: &[u8], marks: &[u8]) -> Vec<Sector> {
+    let mut records = [Sector::default(); 67];
+    let (done, number) = list(track, marks, &mut records);
+    assert_eq!(done, answer(0, 0));
+    records[..number].to_vec()
+}
+
+/// All candidates of a walk.
+fn walked(track: &[u8], marks: &[u8]) -> Vec<Candidate> {
+    let mut walk = Walk::new(track, marks);
+    let found: Vec<_> = std::iter::from_fn(|| walk.step().ok()).take(300).collect();
+    assert!(found.len() < 300, "more counts than a track can hold");
+    found
+}
+
+#[test]
+fn sound_tracks_are_accepted_and_listed() {
+    for seed in 0..3_000 {
+        let Sound { plan, built } = sound_plan(seed);
+        assert_eq!(accepted(&built), answer(0, 0), "seed {seed}");
+        let records = listed(&built.track, &built.marks);
+        assert_eq!(records.len(), plan.sectors.len());
+        for ((record, sector), places) in records.iter().zip(&plan.sectors).zip(&built.places) {
+            assert_eq!((record.flag, record.s), (sector.flag, sector.s));
+            assert_eq!(usize::from(record.kl), sector.key.len());
+            assert_eq!(usize::from(record.dl), sector.data.len());
+            assert_eq!(record.key_place, places.key);
+            assert_eq!(record.data_place, places.data);
+        }
+    }
+}
+
+#[test]
+fn sound_tracks_are_found_and_walked() {
+    for seed in 3_000..3_150 {
+        let Sound { plan, built } = sound_plan(seed);
+        for sector in &plan.sectors {
+            let (done, key) = find(&built.track, &built.marks, sector.s, Part::Key);
+            assert_eq!((done, &built.track[key]), (answer(0, 0), &sector.key[..]));
+            let (done, data) = find(&built.track, &built.marks, sector.s, Part::Data);
+            assert_eq!((done, &built.track[data]), (answer(0, 0), &sector.data[..]));
+        }
+        let places: Vec<usize> = built.places.iter().map(|places| places.count).collect();
+        let found = walked(&built.track, &built.marks);
+        let walk: Vec<usize> = found.iter().map(|next| next.place).collect();
+        assert_eq!(walk, places);
+    }
+}
+
+#[test]
+fn sound_tracks_are_varied() {
+    let (mut numbers, mut homes, mut flags) = (BTreeSet::new(), BTreeSet::new(), BTreeSet::new());
+    let (mut least_gap, mut last_gap, mut b7, mut keys, mut empty) = (0, 0, 0, 0, 0);
+    let mut lengths = BTreeSet::new();
+    for seed in 0..2_000 {
+        let Sound { plan, built } = sound_plan(seed);
+        numbers.insert(plan.sectors.len());
+        homes.insert(plan.home);
+        flags.insert(plan.flag);
+        lengths.insert(plan.length);
+        let end = built.places[built.places.len() - 1].end;
+        last_gap += usize::from(plan.length - end == 13);
+        let inner = &plan.sectors[..plan.sectors.len() - 1];
+        least_gap += usize::from(inner.iter().any(|sector| sector.gap == 21));
+        b7 += plan.sectors.iter().filter(|s| s.flag & 0x40 != 0).count();
+        keys += plan.sectors.iter().filter(|s| !s.key.is_empty()).count();
+        empty += plan.sectors.iter().filter(|s| s.data.is_empty()).count();
+    }
+    assert!(numbers.contains(&1) && numbers.contains(&67) && numbers.len() > 40);
+    assert_eq!(numbers.last(), Some(&67));
+    assert_eq!(
+        homes.into_iter().collect::<Vec<_>>(),
+        Vec::from_iter(23..=37)
+    );
+    assert_eq!(flags.into_iter().collect::<Vec<_>>(), [0, 1, 2, 3]);
+    assert!(lengths.contains(&3_815) && lengths.contains(&4_002) && lengths.len() > 100);
+    assert!([least_gap, last_gap, b7, keys, empty]
+        .iter()
+        .all(|&n| n > 50));
+}
+
+#[test]
+fn damaged_tracks_give_every_answer() {
+    let seeds = 0..6_000;
+    let mut seen = [0; 17];
+    for seed in seeds.clone() {
+        let (track, marks) = damaged(seed);
+        seen[usize::from(accept(&track, &marks).number)] += 1;
+    }
+    println!("answers 0 to 16 over seeds {seeds:?}: {seen:?}");
+    for number in (0..=11).chain([13]) {
+        assert!(seen[number] >= 10, "{number} of {seen:?} over {seeds:?}");
+    }
+    assert_eq!((seen[12], seen[14], seen[15], seen[16]), (0, 0, 0, 0));
+}
+
+/// List, Add and Correct pass on what Accept answers, and Pair find does for the second track.
+#[test]
+fn damaged_tracks_are_refused_alike() {
+    let mut seen = [0; 17];
+    let (first, first_marks) = defective();
+    for seed in 20_000..22_000 {
+        let (track, marks) = damaged(seed);
+        let expected = accept(&track, &marks);
+        if expected.number == 0 {
+            continue;
+        }
+        seen[usize::from(expected.number)] += 1;
+        let mut records = [Sector::default(); 67];
+        assert_eq!(list(&track, &marks, &mut records), (expected, 0));
+        assert_eq!(records, [Sector::default(); 67]);
+        let (mut a, mut b) = (vec![0xA5; track.len()], vec![0x5A; track.len()]);
+        let added = add(&track, &marks, &mut a, &mut b, 2, 0, &[0; 256], &[]);
+        let corrected = correct(&track, &marks, &mut a, &mut b, 0, &[0; 256], &[]);
+        assert_eq!((added, corrected), (expected, expected));
+        assert!(a.iter().all(|&byte| byte == 0xA5) && b.iter().all(|&mark| mark == 0x5A));
+        let paired = pair_find((&first, &first_marks), (&track, &marks), 0, Part::Data);
+        assert_eq!(paired, (expected, 1, 0..0));
+    }
+    for number in (1..=11).chain([13]) {
+        assert!(seen[number] > 0, "{number} of {seen:?}");
+    }
+}
+
+/// A defective track with an alternative allocated.
+fn defective() -> (Vec<u8>, Vec<u8>) {
+    let built = build(&flagged(2, THERE));
+    assert_eq!(accepted(&built), answer(0, 0));
+    (built.track, built.marks)
+}
+
+/// Find agrees with the candidates a walk gives, on any track.
+#[test]
+fn damaged_tracks_find_what_walk_gives() {
+    let mut seen = [0; 17];
+    for seed in 6_000..7_500 {
+        let (track, marks) = damaged(seed);
+        let candidates = walked(&track, &marks);
+        assert!(candidates.windows(2).all(|two| two[0].place < two[1].place));
+        let readable = accept(&track, &marks).number != 1;
+        let mut wanted: Vec<u8> = candidates.iter().map(|next| next.s).take(6).collect();
+        wanted.extend([seed as u8, 0]);
+        for s in wanted {
+            let part = [Part::Key, Part::Data][seed as usize % 2];
+            let (done, range) = find(&track, &marks, s, part);
+            seen[usize::from(done.number)] += 1;
+            let same: Vec<_> = candidates.iter().filter(|next| next.s == s).collect();
+            match same[..] {
+                _ if !readable => assert_eq!(done, answer(1, 0)),
+                [] => assert_eq!(done, answer(12, 0)),
+                [only] => check_found(&track, only, part, done, range),
+                [_, second, ..] => assert_eq!(done, answer(13, second.place)),
+            }
+        }
+    }
+    for number in [0, 1, 9, 10, 11, 12, 13] {
+        assert!(seen[number] > 0, "{number} of {seen:?}");
+    }
+}
+
+/// What Find may answer about its only candidate.
+fn check_found(
+    track: &[u8],
+    only: &Candidate,
+    part: Part,
+    done: Answer,
+    range: std::ops::Range<usize>,
+) {
+    match done.number {
+        0 => {
+            let length = match part {
+                Part::Key => usize::from(only.kl),
+                Part::Data => usize::from(only.dl),
+            };
+            assert_eq!(range.len(), length);
+            assert!(range.end <= track.len());
+            assert!(length == 0 || range.start > only.place);
+        }
+        9 => assert_eq!(done.place, only.place),
+        10 => assert!(part == Part::Key && done.place > only.place),
+        11 => assert!(part == Part::Data && done.place > only.place),
+        _ => panic!("{done:?} for {only:?}"),
+    }
+    assert!(done.number == 0 || range == (0..0));
+}
+
+/// A step-by-step walk equals starting anew behind each candidate.
+#[test]
+fn walk_from_equals_walk() {
+    for seed in 7_500..7_900 {
+        let (track, marks) = damaged(seed);
+        let mut walk = Walk::new(&track, &marks);
+        let mut from = 0;
+        loop {
+            let (step, fresh) = (walk.step(), walk_from(&track, &marks, from));
+            assert_eq!(step, fresh);
+            match step {
+                Ok(next) => from = next.place + 1,
+                Err(_) => break,
+            }
+        }
+    }
+}
+
+#[test]
+fn listing_of_damaged_tracks() {
+    for seed in 7_900..8_300 {
+        let (track, marks) = damaged(seed);
+        if track.len() != marks.len() {
+            continue;
+        }
+        let number = accept(&track, &marks).number;
+        let output = String::from_utf8(tracklist(&[&track[..], &marks].concat())).unwrap();
+        match number {
+            0 => assert_eq!(output.lines().count(), 1 + listed(&track, &marks).len()),
+            _ => assert_eq!(output, format!("refused {number}\n")),
+        }
+    }
+}
+
+#[test]
+fn wanted_blanks() {
+    let mut seen = [0; 17];
+    for seed in 0..1_500 {
+        let w = wanted_blank(seed);
+        let (mut track, mut marks) = (vec![0xA5; w.length], vec![0x5A; w.marks_length]);
+        let done = blank(
+            &mut track, &mut marks, w.address, w.flag, w.partner, w.s, &w.key, &w.data,
+        );
+        seen[usize::from(done.number)] += 1;
+        if done.number == 0 {
+            let records = listed(&track, &marks);
+            assert_eq!((records.len(), records[0].s), (1, w.s));
+            let (_, key) = find(&track, &marks, w.s, Part::Key);
+            let (_, data) = find(&track, &marks, w.s, Part::Data);
+            assert_eq!((&track[key], &track[data]), (&w.key[..], &w.data[..]));
+        } else {
+            assert!(track.iter().all(|&byte| byte == 0xA5));
+            assert!(marks.iter().all(|&mark| mark == 0x5A));
+        }
+    }
+    for number in [0, 1, 14, 15] {
+        assert!(seen[number] > 20, "{number} of {seen:?}");
+    }
+    assert!(seen[0] > 700, "{seen:?}");
+}
+
+#[test]
+fn wanted_additions() {
+    let mut seen = [0; 17];
+    for seed in 0..1_500 {
+        let (track, marks) = if seed % 8 == 0 {
+            damaged(seed)
+        } else {
+            sound(seed)
+        };
+        let w = wanted_add(seed, &track, &marks);
+        let (mut new, mut new_marks) = (vec![0xA5; track.len()], vec![0x5A; track.len()]);
+        let done = add(
+            &track,
+            &marks,
+            &mut new,
+            &mut new_marks,
+            w.b7,
+            w.s,
+            &w.key,
+            &w.data,
+        );
+        seen[usize::from(done.number)] += 1;
+        if done.number == 0 {
+            let (old, records) = (listed(&track, &marks), listed(&new, &new_marks));
+            assert_eq!(records[..old.len()], old);
+            assert_eq!(records.len(), old.len() + 1);
+            let (_, key) = find(&new, &new_marks, w.s, Part::Key);
+            let (_, data) = find(&new, &new_marks, w.s, Part::Data);
+            assert_eq!((&new[key], &new[data]), (&w.key[..], &w.data[..]));
+        } else {
+            assert!(new.iter().all(|&byte| byte == 0xA5));
+            assert!(new_marks.iter().all(|&mark| mark == 0x5A));
+        }
+    }
+    for number in [0, 13, 14, 15] {
+        assert!(seen[number] > 20, "{number} of {seen:?}");
+    }
+    assert!(seen[0] > 400, "{seen:?}");
+}
+
+/// Flag, number, key and data of every sector from left to right.
+fn contents(track: &[u8], marks: &[u8]) -> Vec<(u8, u8, Vec<u8>, Vec<u8>)> {
+    let contents_of = |record: &Sector| {
+        let key = &track[record.key_place..][..record.kl.into()];
+        let data = &track[record.data_place..][..record.dl.into()];
+        (record.flag, record.s, key.to_vec(), data.to_vec())
+    };
+    listed(track, marks).iter().map(contents_of).collect()
+}
+
+fn correction(track: &[u8], marks: &[u8], w: &WantedCorrect) -> (Answer, Vec<u8>, Vec<u8>) {
+    let (mut new, mut new_marks) = (vec![0xA5; track.len()], vec![0x5A; track.len()]);
+    let done = correct(track, marks, &mut new, &mut new_marks, w.s, &w.key, &w.data);
+    if done.number != 0 {
+        assert!(new.iter().all(|&byte| byte == 0xA5));
+        assert!(new_marks.iter().all(|&mark| mark == 0x5A));
+    }
+    (done, new, new_marks)
+}
+
+#[test]
+fn wanted_corrections() {
+    let mut seen = [0; 17];
+    for seed in 0..1_200 {
+        let (track, marks) = if seed % 8 == 0 {
+            damaged(seed)
+        } else {
+            sound(seed)
+        };
+        let w = wanted_correct(seed, &track, &marks);
+        let (done, new, new_marks) = correction(&track, &marks, &w);
+        seen[usize::from(done.number)] += 1;
+        if done.number == 0 {
+            let mut expected = contents(&track, &marks);
+            let changed = expected.iter_mut().find(|sector| sector.1 == w.s).unwrap();
+            (changed.2, changed.3) = (w.key.clone(), w.data.clone());
+            assert_eq!(contents(&new, &new_marks), expected);
+        }
+    }
+    for number in [0, 12, 14, 15] {
+        assert!(seen[number] > 20, "{number} of {seen:?}");
+    }
+    assert!(seen[0] > 400, "{seen:?}");
+}
+
+/// Two corrections of different sectors: the same track in both orders, or 15 in both.
+#[test]
+fn corrections_in_both_orders() {
+    let (mut same, mut full) = (0, 0);
+    for seed in 10_000..11_200 {
+        let (track, marks) = sound(seed);
+        let a = wanted_correct(seed, &track, &marks);
+        let b = wanted_correct(seed + 50_000, &track, &marks);
+        let (done_a, track_a, marks_a) = correction(&track, &marks, &a);
+        let (done_b, track_b, marks_b) = correction(&track, &marks, &b);
+        if a.s == b.s || done_a.number != 0 || done_b.number != 0 {
+            continue;
+        }
+        let a_then_b = correction(&track_a, &marks_a, &b);
+        let b_then_a = correction(&track_b, &marks_b, &a);
+        assert_eq!(a_then_b, b_then_a, "seed {seed}");
+        match a_then_b.0 {
+            Answer { number: 0, .. } => same += 1,
+            refusal => {
+                assert_eq!(refusal, answer(15, 0));
+                full += 1;
+            }
+        }
+    }
+    assert!(same > 200 && full > 0, "{same} {full}");
+}

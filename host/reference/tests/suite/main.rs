@@ -1,0 +1,10 @@
+//! Tests of the reference implementation, one module for each group of calls.
+
+mod accept;
+mod common;
+mod find;
+mod generated;
+mod list_walk;
+mod pair;
+mod worked;
+mod write;
