@@ -14,3 +14,13 @@ pub mod WrittenRest
 pub mod Standing
 pub mod ReadBack
 pub mod ReadsAs
+pub mod WrittenSpans
+pub mod Pairs
+pub mod AcceptedSpans
+pub mod Replaced
+pub mod Relaid
+pub mod RelaidReads
+pub mod Rewritten
+pub mod Corrected
+pub mod Orders
+pub mod PairOrders

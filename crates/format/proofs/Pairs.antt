@@ -1,0 +1,136 @@
+-- Cells as a track and its marks, and back.
+use mathlib.Core.Path.{_≡_, refl, sym, ap, ap₂, _∙_}
+use Prim.Native.Nat.{ℕ, zero, suc, _/_, _%_}
+use native.Mathlib.Omega.{arith}
+use mathlib.Core.Bool.{Bool, true, _&&_}
+use mathlib.Core.List.{List, [], _∷_}
+use lib.ListN.{length, drop, length-map}
+use lib.Dec.{ltb, leb, eqb}
+use borrow.Author.Tests.{ltb-true, lt-ltb, eqb-true, eq-eqb}
+use Rattle.format.specs.Answer.{lentWrong, markStray}
+use Rattle.format.specs.Judged.{Judged, good}
+use Rattle.format.specs.Lent.{lengthRight, marksLegal, lentForWriting, lentForReading, cells, bytesOf, marksOf, unmarked}
+use Rattle.format.specs.Opening.{startsWith, markedOpening, opens}
+use Rattle.format.specs.Accept.{judgeMarks, Accepted, firstCountEnd, acceptCells, accept}
+use Rattle.format.specs.Written.{Pair, asPair}
+use Rattle.format.proofs.Judged.{cases, false-true, and-both, and-make, good-inj, then-good, require-good}
+use Rattle.format.proofs.ReadsAs.{accepted-by}
+
+-- The cells of the bytes and marks of cells are those cells.
+pub cells-of : (c : List ℕ) → cells (bytesOf c) (marksOf c) ≡ c
+unfolding cells bytesOf marksOf
+cells-of [] = refl
+cells-of (x ∷ c) = ap₂ (λ (y : ℕ) (d : List ℕ). y ∷ d) (omega arith) (cells-of c)
+
+-- The bytes of the cells of a track are the track.
+pub bytes-cells : (t m : List ℕ) → length m ≡ length t → unmarked t ≡ true → bytesOf (cells t m) ≡ t
+unfolding cells bytesOf unmarked
+bytes-cells [] m e u = refl
+bytes-cells (b ∷ t) [] e u = absurd (omega arith)
+bytes-cells (b ∷ t) (k ∷ m) e u =
+    let h = and-both (ltb b 256) (unmarked t) u in
+    ap₂ (λ (x : ℕ) (d : List ℕ). x ∷ d) (omega (arith, ltb-true b 256 (h .0))) (bytes-cells t m (omega arith) (h .1))
+
+-- The marks of the cells of a track are its marks.
+pub marks-cells : (t m : List ℕ) → length m ≡ length t → unmarked t ≡ true → marksOf (cells t m) ≡ m
+unfolding cells marksOf unmarked
+marks-cells [] [] e u = refl
+marks-cells [] (k ∷ m) e u = absurd (omega arith)
+marks-cells (b ∷ t) [] e u = absurd (omega arith)
+marks-cells (b ∷ t) (k ∷ m) e u =
+    let h = and-both (ltb b 256) (unmarked t) u in
+    ap₂ (λ (x : ℕ) (d : List ℕ). x ∷ d) (omega (arith, ltb-true b 256 (h .0))) (marks-cells t m (omega arith) (h .1))
+
+-- Cells are as many as the bytes, the marks as many as the cells, and the bytes too.
+pub length-cells : (t m : List ℕ) → length m ≡ length t → length (cells t m) ≡ length t
+unfolding cells
+length-cells [] m e = refl
+length-cells (b ∷ t) [] e = absurd (omega arith)
+length-cells (b ∷ t) (k ∷ m) e = ap suc (length-cells t m (omega arith))
+
+pub length-bytes : (c : List ℕ) → length (bytesOf c) ≡ length c
+unfolding bytesOf
+length-bytes c = length-map c (λ x. x % 256)
+
+pub length-marks : (c : List ℕ) → length (marksOf c) ≡ length c
+unfolding marksOf
+length-marks c = length-map c (λ x. x / 256)
+
+-- The bytes of cells are bytes.
+pub unmarked-bytes : (c : List ℕ) → unmarked (bytesOf c) ≡ true
+unfolding bytesOf unmarked
+unmarked-bytes [] = refl
+unmarked-bytes (x ∷ c) = and-make (lt-ltb (x % 256) 256 (omega arith)) (unmarked-bytes c)
+
+-- Every cell is a byte, marked or not.
+unfoldable pub cellsRight : List ℕ → Bool
+cellsRight [] = true
+cellsRight (x ∷ c) = ltb x 512 && cellsRight c
+
+-- The marks of right cells are 0 or 1.
+pub legal-right : (c : List ℕ) → cellsRight c ≡ true → marksLegal (marksOf c) ≡ true
+unfolding cellsRight marksLegal marksOf
+legal-right [] e = refl
+legal-right (x ∷ c) e =
+    let h = and-both (ltb x 512) (cellsRight c) e in
+    and-make (lt-ltb (x / 256) 2 (omega (arith, ltb-true x 512 (h .0)))) (legal-right c (h .1))
+
+right-behind : (o c : List ℕ) → cellsRight o ≡ true → startsWith o c ≡ true → cellsRight (drop (length o) c) ≡ true → cellsRight c ≡ true
+unfolding cellsRight
+right-behind [] c r e h = h
+right-behind (x ∷ o) [] r e h = false-true e
+right-behind (x ∷ o) (y ∷ c) r e h =
+    let k = and-both (eqb x y) (startsWith o c) e in
+    let l = and-both (ltb x 512) (cellsRight o) r in
+    and-make (ap (λ (z : ℕ). ltb z 512) (sym (eqb-true x y (k .0))) ∙ l .0) (right-behind o c (l .1) (k .1) h)
+
+-- Where no mark is stray, every cell is a byte, marked or not.
+pub right-marks : (e k q : ℕ) (c : List ℕ) → judgeMarks e k q c ≡ good tt → cellsRight (drop k c) ≡ true
+unfolding judgeMarks opens cellsRight
+right-marks e zero q [] h = refl
+right-marks e (suc k) q [] h = refl
+right-marks e zero q (x ∷ c) h =
+    cases (opens (x ∷ c) && leb e q)
+    (λ b.
+    let ih : cellsRight (drop 7 c) ≡ true = right-marks e 7 (suc q) c (rw b at h) in
+    right-behind markedOpening (x ∷ c) refl (and-both (opens (x ∷ c)) (leb e q) b .0) ih)
+    (λ b.
+    let r = require-good (ltb x 256) (markStray q) (judgeMarks e 0 (suc q) c) tt (rw b at h) in
+    and-make (lt-ltb x 512 (omega (arith, ltb-true x 256 (r .0)))) (right-marks e zero (suc q) c (r .1)))
+right-marks e (suc k) q (x ∷ c) h = right-marks e k (suc q) c h
+
+-- The bytes and marks of an accepted track of the right length are lent within the rule,
+pub lent-pair : (c : List ℕ) (a : Accepted) → lengthRight (length c) ≡ true → acceptCells c ≡ good a → lentForReading (bytesOf c) (marksOf c) ≡ true
+unfolding lentForReading lentForWriting
+lent-pair c a l e =
+    let r : cellsRight c ≡ true = right-marks (firstCountEnd (a .home .place)) 0 0 c (accepted-by c a e .marks-judged) in
+    rw (length-bytes c, length-marks c, l, eq-eqb (length c) (length c) refl, legal-right c r)
+
+-- and accepted as the track is.
+pub accept-pair : (c : List ℕ) (a : Accepted) → lengthRight (length c) ≡ true → acceptCells c ≡ good a → accept (bytesOf c) (marksOf c) ≡ good a
+unfolding accept
+accept-pair c a l e = rw (lent-pair c a l e, cells-of c) e
+
+-- A pair that is accepted is lent within the rule, and its cells are accepted alike.
+pub accepted-pair : (t m : List ℕ) (a : Accepted) → accept t m ≡ good a → (lentForReading t m ≡ true) × (acceptCells (cells t m) ≡ good a)
+unfolding accept
+accepted-pair t m a e = require-good (lentForReading t m) lentWrong (acceptCells (cells t m)) a e
+
+-- The cells of a pair that is lent within the rule have its length, which is right.
+pub lent-length : (t m : List ℕ) → lentForReading t m ≡ true → (length (cells t m) ≡ length t) × (lengthRight (length t) ≡ true)
+unfolding lentForReading lentForWriting
+lent-length t m e =
+    let w = and-both (lengthRight (length t) && eqb (length m) (length t)) (marksLegal m) e in
+    let k = and-both (lengthRight (length t)) (eqb (length m) (length t)) (w .0) in
+    (length-cells t m (eqb-true (length m) (length t) (k .1)), k .0)
+
+-- Cells as a pair.
+abbrev pub pairOf : List ℕ → Pair
+pairOf c = record { track = bytesOf c; marks = marksOf c }
+
+-- A pair that is written is that of the cells that were written.
+pub written-pair : (j : Judged (List ℕ)) (q : Pair) → asPair j ≡ good q → (c : List ℕ) × (j ≡ good c) × (pairOf c ≡ q)
+unfolding asPair
+written-pair j q e =
+    let r = then-good j (λ c. good (pairOf c)) q e in
+    (r .0, r .1, good-inj (pairOf (r .0)) q (r .2))
