@@ -1,5 +1,6 @@
--- The laws about the definitions, one theme to a file.
+-- The laws about the definitions, one theme to a file, each resting on those above it.
 pub mod Judged
+pub mod Lists
 pub mod Shape
 pub mod Opening
 pub mod Cutting
@@ -14,9 +15,18 @@ pub mod WrittenRest
 pub mod Standing
 pub mod ReadBack
 pub mod ReadsAs
-pub mod WrittenSpans
-pub mod Pairs
 pub mod AcceptedSpans
+pub mod Pairs
+pub mod Sectors
+pub mod SpanCandidates
+pub mod AcceptedCandidates
+pub mod CandidateMeans
+pub mod CandidateBytes
+pub mod FindParts
+pub mod FindSound
+pub mod FindAccepted
+pub mod WalkSteps
+pub mod WrittenSpans
 pub mod Replaced
 pub mod Relaid
 pub mod RelaidReads
