@@ -18,6 +18,7 @@ pub mod ReadsAs
 pub mod AcceptedSpans
 pub mod Pairs
 pub mod Sectors
+pub mod ListAccepted
 pub mod SpanCandidates
 pub mod AcceptedCandidates
 pub mod CandidateMeans

@@ -1,7 +1,7 @@
 -- List: an accepted track's sectors as records for the caller's list.
 use Prim.Native.Nat.{ℕ, _+_}
 use mathlib.Core.Bool.{Bool}
-use mathlib.Core.List.{List, map}
+use mathlib.Core.List.{List, [], map}
 use lib.ListN.{length}
 use lib.Dec.{leb, eqb}
 use Rattle.crc.specs.Check.{pick}
