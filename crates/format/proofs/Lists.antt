@@ -1,9 +1,9 @@
--- Laws of lists: members, and a part from the middle.
-use mathlib.Core.Path.{_≡_, sym, ap, _∙_}
+-- Laws of lists: members, a part from the middle, the first of mapped elements.
+use mathlib.Core.Path.{_≡_, refl, sym, ap, _∙_}
 use mathlib.Core.Logic.{_⊎_}
 use Prim.Native.Nat.{ℕ, zero, suc, _-_}
 use native.Mathlib.Omega.{arith}
-use mathlib.Core.List.{List, [], _∷_}
+use mathlib.Core.List.{List, [], _∷_, map}
 use lib.ListN.{take, drop}
 use lib.Seq.{take-nil}
 
@@ -18,3 +18,9 @@ drop-take zero n xs = let e : n ≡ n - 0 = omega arith in ap (λ (k : ℕ). tak
 drop-take (suc m) zero xs = let e : 0 ≡ 0 - suc m = omega arith in ap (λ (k : ℕ). take k (drop (suc m) xs)) e
 drop-take (suc m) (suc n) [] = sym (take-nil (suc n - suc m))
 drop-take (suc m) (suc n) (x ∷ xs) = let e : n - m ≡ suc n - suc m = omega arith in drop-take m n xs ∙ ap (λ (k : ℕ). take k (drop m xs)) e
+
+-- The first n of mapped elements are the mapped first n.
+pub take-map : {A B : Type 0} (f : A → B) (n : ℕ) (l : List A) → take n (map f l) ≡ map f (take n l)
+take-map f zero l = refl
+take-map f (suc n) [] = refl
+take-map {A} {B} f (suc n) (x ∷ l) = ap (λ (r : List B). f x ∷ r) (take-map f n l)

@@ -1,0 +1,12 @@
+-- `count_fits` meets its contract.
+use mathlib.Core.Path.{refl}
+use Rattle.format.specs.Count.{countFits}
+use Rattle.sector.proofs.count.count_fits.Statement.{statement}
+use Rattle.sector.proofs.count.count_fits.Tie as tie
+
+returns : tie.Need-returns
+unfolding countFits
+returns c = refl
+
+pub count-fits-spec : {M : Type 1} → statement M
+count-fits-spec = tie.close (tie.spec returns)

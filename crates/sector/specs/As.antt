@@ -1,0 +1,21 @@
+-- The format's address, home and settled address that a value of the code stands for.
+use Rattle.format.specs.Address.{Address}
+use Rattle.format.specs.Home.{Home}
+use Rattle.format.specs.Count.{Settled, unsettled, settled}
+use Rattle.sector.specs.declared.fields.Address.{Address as AddressCode}
+use Rattle.sector.specs.declared.fields.Home.{Home as HomeCode}
+use Rattle.sector.specs.declared.count.Named.{Named}
+use Rattle.sector.specs.declared.count.Named.the-variants.{Unsettled, Settled as SettledCode}
+
+-- The address.
+abbrev pub asAddress : AddressCode → Address
+asAddress a = record { cylinder = a .cylinder; head = a .head }
+
+-- The home.
+abbrev pub asHome : HomeCode → Home
+asHome h = record { place = h .place; flag = h .flag; address = asAddress (h .address) }
+
+-- What sector 0's count settles.
+abbrev pub asSettled : Named → Settled
+asSettled Unsettled = unsettled
+asSettled (SettledCode a) = settled (asAddress a)

@@ -1,0 +1,2 @@
+-- How the code's values stand for those of the format.
+pub mod As

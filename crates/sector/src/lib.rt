@@ -1,0 +1,88 @@
+// Judging a sector from the bytes of its own span: what follows its count's opening.
+ghost use mathlib.Core.Path.{_≡_};
+ghost use Rattle.format.specs.Answer.{answerAt};
+ghost use Rattle.format.specs.Judged.{answerOf};
+ghost use Rattle.format.specs.Sector.{openingLength, judgeCount, readBlocks};
+ghost use Rattle.sector.specs.As.{asHome, asSettled};
+
+pub mod blocks;
+pub mod bytes;
+pub mod count;
+pub mod fields;
+
+pub use blocks::KEY_OFFSET;
+pub use blocks::block_end;
+pub use blocks::block_right;
+pub use blocks::blocks_fit;
+pub use blocks::data_offset;
+pub use blocks::data_right;
+pub use blocks::key_right;
+pub use blocks::least_gap;
+pub use bytes::byte_at;
+pub use bytes::closed_after;
+pub use bytes::starts_empty;
+pub use bytes::starts_plain;
+pub use count::Named;
+pub use count::count_address_right;
+pub use count::count_closed;
+pub use count::count_fields_right;
+pub use count::count_fits;
+pub use count::data_length;
+pub use count::key_length;
+pub use fields::Address;
+pub use fields::Home;
+pub use fields::address_in;
+pub use fields::address_in_range;
+pub use fields::address_right;
+pub use fields::count_flag_right;
+pub use fields::home_fields_right;
+pub use fields::home_flag_right;
+pub use fields::names_itself;
+pub use fields::same_address;
+pub use fields::sequence_right;
+
+// The answer for the count at p, in position i: 9 where it does not fit its span, then 7, then 8.
+pub fn judge_count(h: Home, i: usize, x: Named, p: usize, r: &[u8]) -> format::Answer
+    ensures { λ a. ⌜ answerAt (a .number) (a .place) ≡ answerOf (judgeCount (asHome h) i (asSettled x) p (now (r .entry))) ⌝ }
+{
+    if count_fits(r) {
+        if count_closed(r) {
+            if count_fields_right(h, i, x, r) {
+                format::done()
+            } else {
+                format::count_fields_wrong(p)
+            }
+        } else {
+            format::count_check_wrong(p)
+        }
+    } else {
+        format::span_too_short(p)
+    }
+}
+
+// The length of the opening of a count: six bytes in sector 0, else eight.
+pub fn opening_length(first: bool) -> usize
+    ensures { λ n. ⌜ n ≡ openingLength first ⌝ }
+{
+    if first { 6 } else { 8 }
+}
+
+// The answer for the blocks of the count at p: 9 where they and the least gap do not fit its span, then 10, then 11.
+pub fn judge_blocks(first: bool, p: u32, last: bool, r: &[u8]) -> format::Answer
+    ensures { λ a. ⌜ answerAt (a .number) (a .place) ≡ answerOf (readBlocks first p last (now (r .entry))) ⌝ }
+{
+    let at = p as usize;
+    if blocks_fit(last, r) {
+        if key_right(r) {
+            if data_right(r) {
+                format::done()
+            } else {
+                format::data_wrong(at + opening_length(first) + data_offset(r))
+            }
+        } else {
+            format::key_wrong(at + opening_length(first) + KEY_OFFSET)
+        }
+    } else {
+        format::span_too_short(at)
+    }
+}
