@@ -3,14 +3,13 @@ use mathlib.Core.Path.{_≡_, sym, ap, _∙_}
 use Prim.Native.Nat.{ℕ, zero, suc, _+_, _≤_}
 use native.Mathlib.Omega.{arith}
 use mathlib.Core.List.{List, _++_}
-use lib.ListN.{length, take, drop, length-drop}
-use lib.Seq.{take-append-le, drop-append-le}
+use lib.ListN.{length, take, drop}
 use Rattle.format.specs.Answer.{homeCheckWrong, homeFieldsWrong}
 use Rattle.format.specs.Judged.{Judged, good, then, require}
 use Rattle.format.specs.Opening.{startsWith, plainOpening, closedAfter}
 use Rattle.format.specs.Home.{Home, homeFrom, findHome, homeBytes, homeAt, homeFieldsRight, judgeHome, firstCountPlace}
 use Rattle.format.proofs.Judged.{cases, good-inj, refused-good, then-good, require-good}
-use Rattle.format.proofs.Opening.{starts-with-append}
+use Rattle.format.proofs.Local.{starts-local, take-local}
 
 -- What home at p is judged to be.
 unfoldable judgedAt : List ℕ → ℕ → Judged Home
@@ -46,18 +45,6 @@ home-window c h e =
     (omega arith, omega arith)
 
 module _ (xs ys zs : List ℕ) where
-  -- Whether something starts within xs does not turn on what follows xs.
-  starts-local : (o : List ℕ) (q : ℕ) → q + length o ≤ length xs → startsWith o (drop q (xs ++ ys)) ≡ startsWith o (drop q (xs ++ zs))
-  starts-local o q h =
-      let l : length o ≤ length (drop q xs) = omega (arith, length-drop q xs) in
-      rw (drop-append-le q xs ys (omega arith), drop-append-le q xs zs (omega arith), starts-with-append o (drop q xs) ys l, starts-with-append o (drop q xs) zs l)
-
-  -- And neither does what is taken within xs.
-  take-local : (n q : ℕ) → q + n ≤ length xs → take n (drop q (xs ++ ys)) ≡ take n (drop q (xs ++ zs))
-  take-local n q h =
-      let l : n ≤ length (drop q xs) = omega (arith, length-drop q xs) in
-      rw (drop-append-le q xs ys (omega arith), drop-append-le q xs zs (omega arith), take-append-le n (drop q xs) ys l, take-append-le n (drop q xs) zs l)
-
   -- A home within xs is found whatever follows xs.
   found-local : (n q p : ℕ) → homeFrom n q (xs ++ ys) ≡ good p → p + 6 ≤ length xs → homeFrom n q (xs ++ zs) ≡ good p
   unfolding homeFrom
@@ -65,13 +52,13 @@ module _ (xs ys zs : List ℕ) where
   found-local (suc n) q p e h =
       let w = found-window (suc n) q p (xs ++ ys) e in
       cases (startsWith plainOpening (drop q (xs ++ ys)))
-      (λ a. rw (sym (starts-local plainOpening q (omega arith)) ∙ a) (rw a at e))
-      (λ a. rw (sym (starts-local plainOpening q (omega arith)) ∙ a) (found-local n (suc q) p (rw a at e) h))
+      (λ a. rw (sym (starts-local xs zs ys plainOpening q (omega arith)) ∙ a) (rw a at e))
+      (λ a. rw (sym (starts-local xs zs ys plainOpening q (omega arith)) ∙ a) (found-local n (suc q) p (rw a at e) h))
 
   -- And judged the same.
   judged-local : (p : ℕ) → p + 14 ≤ length xs → judgedAt (xs ++ ys) p ≡ judgedAt (xs ++ zs) p
   unfolding judgedAt homeAt homeBytes
-  judged-local p h = rw (take-local 8 (p + 6) (omega arith))
+  judged-local p h = rw (take-local xs zs ys 8 (p + 6) (omega arith))
 
 -- Home is the same in front of anything else from sector 0's place on.
 pub home-local : (xs ys zs : List ℕ) (h : Home) → judgeHome (xs ++ ys) ≡ good h → length xs ≡ firstCountPlace (h .place) → judgeHome (xs ++ zs) ≡ good h

@@ -4,13 +4,14 @@ pub mod Lists
 pub mod Shape
 pub mod Opening
 pub mod Cutting
+pub mod Sizes
+pub mod Field
+pub mod Local
 pub mod HomeLocal
 pub mod SpanAgrees
 pub mod Marks
 pub mod StrayMark
-pub mod Sizes
 pub mod ReadSector
-pub mod Field
 pub mod WrittenRest
 pub mod Standing
 pub mod ReadBack
@@ -28,7 +29,6 @@ pub mod FindSound
 pub mod FindAccepted
 pub mod WalkSteps
 pub mod WrittenSpans
-pub mod Local
 pub mod ReadPrefix
 pub mod ShortenedSpan
 pub mod TakenApart
@@ -50,3 +50,4 @@ pub mod Rewritten
 pub mod Corrected
 pub mod Orders
 pub mod PairOrders
+pub mod CorrectPair

@@ -1,0 +1,63 @@
+-- A correction of a lent pair: what it writes is accepted, and it has room exactly where the last block ends early enough.
+use mathlib.Core.Path.{_≡_, refl, sym, ap, _∙_}
+use Prim.Native.Nat.{ℕ, _+_, _-_, _≤_, _<_}
+use native.Mathlib.Omega.{arith}
+use mathlib.Core.Bool.{true}
+use mathlib.Core.List.{List, [], _∷_, _++_, map}
+use lib.ListN.{length, take}
+use lib.Seq.{length-take-le}
+use borrow.Author.Tests.{le-leb, lt-leb}
+use Rattle.format.specs.Answer.{roomMissing}
+use Rattle.format.specs.Judged.{Judged, good, refused}
+use Rattle.format.specs.Lent.{lengthRight, cells}
+use Rattle.format.specs.Block.{leastGap}
+use Rattle.format.specs.Span.{joined}
+use Rattle.format.specs.Sector.{Sector}
+use Rattle.format.specs.Accept.{Placed, Accepted, accept, acceptCells}
+use Rattle.format.specs.Written.{Pair, reach, writtenSpans, writtenBehind}
+use Rattle.format.specs.Blank.{contentRight}
+use Rattle.format.specs.Add.{fromNumber}
+use Rattle.format.specs.Correct.{withContent, sectorsOf, rewrittenFrom, correctCells}
+use Rattle.format.specs.Together.{Correction, replacedBy, corrected, correctedPair}
+use Rattle.format.proofs.Replaced.{Bytes}
+use Rattle.format.proofs.Pairs.{accept-pair, accepted-pair, lent-length, written-pair, length-bytes, length-marks}
+use Rattle.format.proofs.Orders.{correct-accepted}
+use Rattle.format.proofs.PairOrders.{lent-corrected}
+
+module _ (gap : ℕ → ℕ → ℕ) where
+  -- The corrected pair is accepted, as long as before, with the same home and the same sectors but for the new key and data.
+  pub correct-pair : ((k d : ℕ) → 21 ≤ gap k d) → (t m : List ℕ) (a : Accepted) → accept t m ≡ good a → (x : Correction) → Bytes x
+      → (q : Pair) → correctedPair gap t m x ≡ good q
+      → (b : Accepted) × (accept (q .track) (q .marks) ≡ good b) × (b .home ≡ a .home) × (sectorsOf (b .sectors) ≡ map (replacedBy x) (sectorsOf (a .sectors)))
+      × (length (q .track) ≡ length t) × (length (q .marks) ≡ length t)
+  correct-pair least t m a e x bx q k =
+      let g = accepted-pair t m a e in
+      let n = lent-length t m (g .0) in
+      let i = written-pair (corrected gap (cells t m) x) q (sym (lent-corrected gap t m x (g .0)) ∙ k) in
+      let c : List ℕ = i .0 in
+      let s = correct-accepted gap least (cells t m) a (g .1) x bx c (i .1) in
+      let long : length c ≡ length t = s .4 ∙ n .0 in (
+        s .0,
+        ap (λ (z : Pair). accept (z .track) (z .marks)) (sym (i .2)) ∙ accept-pair c (s .0) (ap lengthRight long ∙ n .1) (s .1),
+        s .2,
+        s .3,
+        ap (λ (z : Pair). length (z .track)) (sym (i .2)) ∙ length-bytes c ∙ long,
+        ap (λ (z : Pair). length (z .marks)) (sym (i .2)) ∙ length-marks c ∙ long,
+      )
+
+  -- Where the last block ends if the sector y, with the sectors ys behind it, gets a new key and data, and the least gap behind it.
+  unfoldable pub correctNeed : List ℕ → List ℕ → Placed → List Placed → ℕ
+  correctNeed key body y ys = y .place + reach gap (withContent key body (y .sector) ∷ sectorsOf ys) + 13
+
+  -- 15 is the answer exactly where that is later than L.
+  pub correct-room : (c : List ℕ) (a : Accepted) → acceptCells c ≡ good a → (s : ℕ) (key body : List ℕ) → contentRight key body ≡ true
+      → (y : Placed) (ys : List Placed) → fromNumber s (a .sectors) ≡ y ∷ ys → y .place ≤ length c
+      → (length c < correctNeed key body y ys → correctCells gap c s key body ≡ refused roomMissing)
+      × (correctNeed key body y ys ≤ length c → (d : List ℕ) × (correctCells gap c s key body ≡ good d))
+  unfolding correctCells rewrittenFrom writtenBehind correctNeed leastGap
+  correct-room c a e s key body r y ys f l =
+      let ss : List Sector = withContent key body (y .sector) ∷ sectorsOf ys in
+      let p : ℕ = y .place in (
+        λ short. rw (e, r, f, length-take-le p c l, lt-leb (p + reach gap ss + 13) (length c) (omega arith)),
+        λ long. (take p c ++ joined (writtenSpans gap (length c - p) ss), rw (e, r, f, length-take-le p c l, le-leb (p + reach gap ss + 13) (length c) (omega arith))),
+      )
