@@ -27,6 +27,7 @@ pub mod CandidateBytes
 pub mod FindParts
 pub mod FindSound
 pub mod FindAccepted
+pub mod PairFindSound
 pub mod WalkSteps
 pub mod WrittenSpans
 pub mod ReadPrefix
