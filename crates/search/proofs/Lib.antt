@@ -1,0 +1,5 @@
+-- The laws of the searches.
+pub mod Cells
+pub mod Home
+pub mod Run
+pub mod Stray

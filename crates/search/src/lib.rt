@@ -1,0 +1,243 @@
+// Searching a lent track and its marks: the test of what is lent, openings, home, spans and stray marks.
+ghost use mathlib.Core.Path.{_≡_};
+ghost use mathlib.Core.Bool.{_&&_};
+ghost use Prim.Native.Nat.{_+_, _-_, _≤_};
+ghost use lib.ListN.{length, drop};
+ghost use lib.Dec.{leb};
+ghost use Rattle.format.specs.Lent.{lengthRight, marksLegal, lentForWriting, lentForReading, cells};
+ghost use Rattle.format.specs.Opening.{startsWith, plainOpening, opens};
+ghost use Rattle.format.specs.Home.{findHome};
+ghost use Rattle.format.specs.Span.{unmarkedRun, runsToIndex, spanLength};
+ghost use Rattle.format.specs.Accept.{judgeMarks};
+ghost use Rattle.search.specs.Place.{judgedPlace, inWindow};
+ghost use Rattle.search.specs.Stray.{judgedMarks};
+
+// The bytes of a plain opening.
+const PLAIN: [u8; 6] = [0x00, 0x00, 0x00, 0x00, 0xFF, 0x0E];
+
+// The bytes of a marked opening.
+const MARKED: [u8; 8] = [0x00, 0x00, 0x00, 0x00, 0xFF, 0xFF, 0xFF, 0x0E];
+
+// The marks of a marked opening.
+const MARKED_MARKS: [u8; 8] = [0, 0, 0, 0, 0, 1, 1, 0];
+
+// Whether L is in range, 3,815 to 4,002.
+pub fn length_right(l: usize) -> bool
+    ensures { λ r. ⌜ r ≡ lengthRight l ⌝ }
+{
+    if l < 3815 {
+        return false;
+    }
+    l <= 4002
+}
+
+// Whether a pair of the lengths l and k is lent for writing within the rule.
+pub fn lent_for_writing(l: usize, k: usize) -> bool
+    ensures { λ r. ⌜ r ≡ lentForWriting l k ⌝ }
+{
+    if !length_right(l) {
+        return false;
+    }
+    k == l
+}
+
+// Whether every mark is 0 or 1.
+fn marks_legal(marks: &[u8]) -> bool
+    ensures { λ r. ⌜ r ≡ marksLegal (now (marks .entry)) ⌝ }
+{
+    let mut i = 0;
+    while i < marks.len() {
+        if marks[i] > 1 {
+            return false;
+        }
+        i += 1;
+    }
+    true
+}
+
+// Whether a pair is lent for reading within the rule.
+pub fn lent_for_reading(track: &[u8], marks: &[u8]) -> bool
+    ensures { λ r. ⌜ r ≡ lentForReading (now (track .entry)) (now (marks .entry)) ⌝ }
+{
+    if !lent_for_writing(track.len(), marks.len()) {
+        return false;
+    }
+    marks_legal(marks)
+}
+
+// How many cells a pair has: the length of the shorter list.
+pub fn cell_count(track: &[u8], marks: &[u8]) -> usize
+    ensures { λ r. ⌜ r ≡ length (cells (now (track .entry)) (now (marks .entry))) ⌝ }
+    ensures { λ r. ⌜ (r ≤ length (now (track .entry))) × (r ≤ length (now (marks .entry))) ⌝ }
+{
+    if track.len() < marks.len() {
+        return track.len();
+    }
+    marks.len()
+}
+
+// How many cells a pair has from place p on.
+pub fn cells_from(track: &[u8], marks: &[u8], p: usize) -> usize
+    ensures { λ r. ⌜ r ≡ length (drop p (cells (now (track .entry)) (now (marks .entry)))) ⌝ }
+    ensures { λ r. ⌜ (r ≤ length (now (track .entry)) - p) × (r ≤ length (now (marks .entry)) - p) ⌝ }
+{
+    let n = cell_count(track, marks);
+    if n < p {
+        return 0;
+    }
+    n - p
+}
+
+// Whether the opening of these bytes and marks stands at place p.
+fn starts_with(track: &[u8], marks: &[u8], p: usize, opening: &[u8], marking: &[u8]) -> bool
+    ensures { λ r. ⌜ r ≡ startsWith (cells (now (opening .entry)) (now (marking .entry))) (drop p (cells (now (track .entry)) (now (marks .entry)))) ⌝ }
+{
+    let size = cell_count(opening, marking);
+    if cells_from(track, marks, p) < size {
+        return false;
+    }
+    let mut k = 0;
+    while k < size {
+        if track[p + k] != opening[k] {
+            return false;
+        }
+        if marks[p + k] != marking[k] {
+            return false;
+        }
+        k += 1;
+    }
+    true
+}
+
+// Whether a plain opening stands at place p: six bytes, none of them marked.
+pub fn opens_plain(track: &[u8], marks: &[u8], p: usize) -> bool
+    ensures { λ r. ⌜ r ≡ startsWith plainOpening (drop p (cells (now (track .entry)) (now (marks .entry)))) ⌝ }
+{
+    starts_with(track, marks, p, &PLAIN, &[0; 6])
+}
+
+// Whether a marked opening stands at place p: eight bytes, of which the second and third FF are marked.
+pub fn opens_marked(track: &[u8], marks: &[u8], p: usize) -> bool
+    ensures { λ r. ⌜ r ≡ opens (drop p (cells (now (track .entry)) (now (marks .entry)))) ⌝ }
+{
+    starts_with(track, marks, p, &MARKED, &MARKED_MARKS)
+}
+
+// Home's place, or that home opens nowhere in its window.
+pub enum Found {
+    At(usize),
+    Nowhere,
+}
+
+// Home's place: the first of the window's places 23 to 37 at which all six opening bytes agree and are unmarked.
+pub fn find_home(track: &[u8], marks: &[u8]) -> Found
+    ensures { λ r. ⌜ judgedPlace r ≡ findHome (cells (now (track .entry)) (now (marks .entry))) ⌝ }
+    ensures { λ r. ⌜ inWindow r ⌝ }
+{
+    let n = cell_count(track, marks);
+    'search: loop {
+        'places: for place in 23..=37 {
+            for k in 0..6 {
+                if n <= place + k {
+                    continue 'places;
+                }
+                if track[place + k] != PLAIN[k] {
+                    continue 'places;
+                }
+                if marks[place + k] > 0 {
+                    continue 'places;
+                }
+            }
+            break 'search Found::At(place);
+        }
+        break 'search Found::Nowhere;
+    }
+}
+
+// How many cells stand from place p on before the first marked one.
+pub fn unmarked_run(track: &[u8], marks: &[u8], p: usize) -> usize
+    ensures { λ r. ⌜ r ≡ unmarkedRun (drop p (cells (now (track .entry)) (now (marks .entry)))) ⌝ }
+{
+    let left = cells_from(track, marks, p);
+    let mut i = 0;
+    while i < left {
+        if marks[p + i] != 0 {
+            return i;
+        }
+        i += 1;
+    }
+    i
+}
+
+// The length of a span, and whether it runs to index.
+pub struct Span {
+    pub length: usize,
+    pub last: bool,
+}
+
+// The span of the count at place p, whose opening has o cells.
+pub fn span_at(track: &[u8], marks: &[u8], p: usize, o: usize) -> Span
+    ensures { λ r. ⌜ r .length ≡ spanLength o (drop p (cells (now (track .entry)) (now (marks .entry)))) ⌝ }
+    ensures { λ r. ⌜ r .last ≡ runsToIndex o (drop p (cells (now (track .entry)) (now (marks .entry)))) ⌝ }
+    ensures { λ r. ⌜ (p ≤ length (now (track .entry)) → p + r .length ≤ length (now (track .entry))) × (p ≤ length (now (marks .entry)) → p + r .length ≤ length (now (marks .entry))) ⌝ }
+{
+    let left = cells_from(track, marks, p);
+    if left <= o {
+        return Span {
+            length: left,
+            last: true,
+        };
+    }
+    let run = unmarked_run(track, marks, p + o);
+    if run == left - o {
+        return Span {
+            length: left,
+            last: true,
+        };
+    }
+    if o + run < 5 {
+        return Span {
+            length: 0,
+            last: false,
+        };
+    }
+    Span {
+        length: o + run - 5,
+        last: false,
+    }
+}
+
+// Whether a marked opening stands at place q, and q is e or later.
+fn opens_behind(track: &[u8], marks: &[u8], e: usize, q: usize) -> bool
+    ensures { λ r. ⌜ r ≡ (opens (drop q (cells (now (track .entry)) (now (marks .entry)))) && leb e q) ⌝ }
+{
+    if q < e {
+        return false;
+    }
+    opens_marked(track, marks, q)
+}
+
+// The place of the lowest stray mark, or that there is none.
+pub enum Strayed {
+    Nowhere,
+    At(usize),
+}
+
+// The lowest mark outside a whole opening, or in one that starts before place e.
+pub fn judge_marks(track: &[u8], marks: &[u8], e: usize) -> Strayed
+    ensures { λ r. ⌜ judgedMarks r ≡ judgeMarks e 0 0 (cells (now (track .entry)) (now (marks .entry))) ⌝ }
+{
+    let n = cell_count(track, marks);
+    let mut q = 0;
+    while q < n {
+        if opens_behind(track, marks, e, q) {
+            q += 8;
+            continue;
+        }
+        if marks[q] != 0 {
+            return Strayed::At(q);
+        }
+        q += 1;
+    }
+    Strayed::Nowhere
+}
