@@ -1,0 +1,8 @@
+-- The laws about laid lists and about what is written, one theme to a file.
+pub mod Laid
+pub mod Room
+pub mod Closing
+pub mod Blocks
+pub mod Cells
+pub mod Openings
+pub mod Sectors
