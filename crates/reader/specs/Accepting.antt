@@ -1,0 +1,148 @@
+-- What judging a home and a whole track gives.
+use mathlib.Core.Path.{_≡_}
+use Prim.Native.Nat.{ℕ, suc, _+_, _≤_}
+use mathlib.Core.Bool.{Bool, true, not}
+use mathlib.Core.List.{List, [], _∷_}
+use lib.ListN.{length, getD, drop}
+use lib.Dec.{ltb, eqb}
+use Rattle.crc.specs.Check.{pick}
+use Rattle.format.specs.Answer.{answerAt, homeCheckWrong, homeFieldsWrong, sectorRepeated}
+use Rattle.format.specs.Judged.{Judged, good, refused, then, require}
+use Rattle.format.specs.Lent.{cells}
+use Rattle.format.specs.Opening.{closedAfter}
+use Rattle.format.specs.Address.{addressIn}
+use Rattle.format.specs.Home.{Home, homeFieldsRight, firstCountPlace}
+use Rattle.format.specs.Count.{Settled, unsettled, countFlag, countNumber, keyLength, dataLength}
+use Rattle.format.specs.Block.{keyOffset, dataOffset, blockEnd}
+use Rattle.format.specs.Span.{runsToIndex, spanLength, afterOpening, beforeOpening, laterSpans}
+use Rattle.format.specs.Sector.{Sector, openingLength, isFirst, judgeCount, readBlocks}
+use Rattle.format.specs.Accept.{judgeMarks, readSpans, Placed, placedFrom, among, judgeNumbers, spansOf, firstCountEnd}
+use Rattle.format.specs.Listing.{Listed}
+use Rattle.format.proofs.Shape.{cleanSpans}
+use Rattle.sector.specs.As.{asHome}
+use Rattle.reader.specs.declared.home.HomeJudged.{HomeJudged}
+use Rattle.reader.specs.declared.home.HomeJudged.the-variants.{Right, Refused}
+use Rattle.reader.specs.declared.accepting.Judged.{Judged as JudgedCode}
+use Rattle.reader.specs.declared.accepting.Judged.the-variants.{Accepted, Refused as RefusedTrack}
+use Rattle.reader.specs.declared.sectors.SectorAt.{SectorAt as SectorCode}
+
+-- The home, or the answer that refuses it.
+abbrev pub judgedHome : HomeJudged → Judged Home
+judgedHome (Right h) = good (asHome h)
+judgedHome (Refused a) = refused (answerAt (a .number) (a .place))
+
+-- A home that is right starts at place p.
+abbrev pub homeStandsAt : ℕ → HomeJudged → Type 0
+homeStandsAt p (Right h) = h .place ≡ p
+homeStandsAt p (Refused a) = Unit {0}
+
+-- A home that is right starts in its window, 23 to 37.
+abbrev pub homeInWindow : HomeJudged → Type 0
+homeInWindow (Right h) = (23 ≤ h .place) × (h .place ≤ 37)
+homeInWindow (Refused a) = Unit {0}
+
+-- The home at p of the bytes r that follow its opening.
+unfoldable pub homeOf : ℕ → List ℕ → Home
+homeOf p r = record { place = p; flag = getD r 0 0; address = addressIn r }
+
+-- What is judged of it: 3 where its check or closing byte is wrong, then 4.
+unfoldable pub judgeHomeOf : ℕ → List ℕ → Judged Home
+judgeHomeOf p r =
+    require (closedAfter 5 r) (homeCheckWrong p)
+    (require (homeFieldsRight (homeOf p r)) (homeFieldsWrong p)
+    (good (homeOf p r)))
+
+-- A sector in position i and at place p by what follows its count's opening: its count, then its blocks.
+unfoldable pub judgeSector : Home → ℕ → Settled → ℕ → Bool → List ℕ → Judged Sector
+judgeSector h i x p last r = then (judgeCount h i x p r) (λ _. readBlocks (isFirst i) p last r)
+
+-- What is left of a track from place p on: nothing, or it starts with a whole opening; and no mark of it is stray.
+pub record Rest (p : ℕ) (t m : List ℕ) : Type 0 where
+  pub lengths : length m ≡ length t
+  pub within : p + length t ≤ 4002
+  pub opened : beforeOpening (cells t m) ≡ []
+  pub clean : cleanSpans 1 (laterSpans (cells t m)) ≡ true
+
+-- A lent track without stray marks, on which sector 0 stands at place p.
+pub record Unstrayed (p : ℕ) (t m : List ℕ) : Type 0 where
+  pub lengths : length m ≡ length t
+  pub within : length t ≤ 4002
+  pub reach : p ≤ length t
+  pub judged : judgeMarks (p + 18) 0 0 (cells t m) ≡ good tt
+
+-- 13 by the spans gs alone, the first of which stands in position i and at place p; `seen` has the numbers passed.
+unfoldable pub numbersIn : List ℕ → ℕ → ℕ → List (List ℕ) → Judged (Unit {0})
+numbersIn seen i p [] = good tt
+numbersIn seen i p (g ∷ gs) =
+    let n = countNumber (drop (openingLength (isFirst i)) g) in
+    require (not (among n seen)) (sectorRepeated p) (numbersIn (n ∷ seen) (suc i) (p + length g) gs)
+
+-- The sectors of the track c behind its home h: 5, then sector by sector, last 13.
+unfoldable pub judgeBehind : Home → List ℕ → Judged (List Placed)
+judgeBehind h c =
+    then (judgeMarks (firstCountEnd (h .place)) 0 0 c) (λ _.
+    then (readSpans h 0 unsettled (firstCountPlace (h .place)) (spansOf h c)) (λ ss.
+    let xs = placedFrom (firstCountPlace (h .place)) (spansOf h c) ss in
+    then (judgeNumbers [] xs) (λ _.
+    good xs)))
+
+-- The home of an accepted track, or the answer that refuses the track.
+abbrev pub judgedTrack : JudgedCode → Judged Home
+judgedTrack (Accepted h) = good (asHome h)
+judgedTrack (RefusedTrack a) = refused (answerAt (a .number) (a .place))
+
+-- The home of an accepted track starts in its window, 23 to 37.
+abbrev pub trackInWindow : JudgedCode → Type 0
+trackInWindow (Accepted h) = (23 ≤ h .place) × (h .place ≤ 37)
+trackInWindow (RefusedTrack a) = Unit {0}
+
+-- A sector that stands on a track: its record, where its data block ends, where the next sector starts, and is it the last?
+pub record Standing : Type 0 where
+  pub listed : Listed
+  pub end : ℕ
+  pub next : ℕ
+  pub last : Bool
+
+-- The sector that a value of the code stands for.
+abbrev pub asSector : SectorCode → Standing
+asSector s =
+    record {
+      listed = record {
+        flag = s .flag;
+        number = s .number;
+        keyLength = s .«key_length»;
+        dataLength = s .«data_length»;
+        keyPlace = s .«key_place»;
+        dataPlace = s .«data_place»;
+      };
+      end = s .end;
+      next = s .next;
+      last = s .last;
+    }
+
+-- The place p, or the end of the longest track where p lies beyond it.
+unfoldable pub placeWithin : ℕ → ℕ
+placeWithin p = pick (ltb 4002 p) 4002 p
+
+-- The sector of which r follows the count's opening, from place q on.
+unfoldable pub sectorOf : ℕ → ℕ → Bool → List ℕ → Standing
+sectorOf q next last r =
+    record {
+      listed = record {
+        flag = countFlag r;
+        number = countNumber r;
+        keyLength = keyLength r;
+        dataLength = dataLength r;
+        keyPlace = pick (eqb (keyLength r) 0) 0 (q + keyOffset + 6);
+        dataPlace = q + dataOffset r + 6;
+      };
+      end = q + blockEnd r;
+      next = next;
+      last = last;
+    }
+
+-- The sector whose count opens at the front of c, at place p: sector 0 or a later one.
+unfoldable pub sectorAt : Bool → ℕ → List ℕ → Standing
+sectorAt first p c =
+    let o = openingLength first in
+    sectorOf (p + o) (p + spanLength o c) (runsToIndex o c) (afterOpening o c)

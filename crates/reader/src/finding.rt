@@ -1,0 +1,130 @@
+// Find: the key's or the data's information of sector S on any track, sound or damaged.
+ghost use mathlib.Core.Path.{_≡_};
+ghost use lib.ListN.{length, take, drop};
+ghost use Rattle.format.specs.Lent.{cells};
+ghost use Rattle.format.specs.Candidate.{candidatesFrom};
+ghost use Rattle.format.specs.Find.{partAt, carrying, findCells, find};
+ghost use Rattle.search.specs.Place.{judgedPlace};
+ghost use Rattle.reader.specs.Finding.{asCandidate, standing, asWanted, asPart, candidatePart, judgedPart, partWithin, handedOut};
+use crate::candidate::Candidate;
+use crate::candidate::Standing;
+use crate::candidate::next_candidate;
+use crate::candidate::rest_of;
+
+// The part of a sector that is asked for.
+pub enum Wanted {
+    TheKey,
+    TheData,
+}
+
+// A part of the lent track: its first place and its length.
+pub struct Part {
+    pub start: usize,
+    pub size: usize,
+}
+
+// The part that was found, or the answer that refuses it.
+pub enum Outcome {
+    Found(Part),
+    Refused(format::Answer),
+}
+
+// The part of n bytes from place p on; an empty part is put at 0.
+fn part_at(p: usize, n: usize) -> Part
+    ensures { λ r. ⌜ asPart r ≡ partAt p n ⌝ }
+{
+    if n == 0 {
+        return Part { start: 0, size: 0 };
+    }
+    Part { start: p, size: n }
+}
+
+// The first candidate at place `from` or later that carries S, if there is one.
+fn next_carrying(track: &[u8], marks: &[u8], home: search::Found, from: usize, s: u8) -> Standing
+    ensures { λ r. ⌜ standing (now (track .entry)) r ≡ take 1 (carrying s (candidatesFrom (judgedPlace home) from (drop from (cells (now (track .entry)) (now (marks .entry)))))) ⌝ }
+{
+    let mut p = from;
+    loop {
+        match next_candidate(track, marks, home, p) {
+            Standing::Stands(x) => {
+                if sector::byte_at(rest_of(track, x), 5) == s {
+                    return Standing::Stands(x);
+                }
+                p = x.place + 1;
+            }
+            Standing::Not => return Standing::Not,
+        }
+    }
+}
+
+// The part asked for of a candidate: 9 where its blocks and the least gap do not fit its span, then 10 for the key or 11 for the data.
+fn part_of(track: &[u8], x: Candidate, wanted: Wanted) -> Outcome
+    ensures { λ r. ⌜ judgedPart r ≡ candidatePart (asWanted wanted) (asCandidate (now (track .entry)) x) ⌝ }
+    ensures { λ r. ⌜ partWithin r (length (now (track .entry))) ⌝ }
+{
+    let r = rest_of(track, x);
+    if sector::blocks_fit(x.last, r) {
+        let from = x.place + sector::opening_length(x.first);
+        match wanted {
+            Wanted::TheKey => {
+                let at = from + sector::KEY_OFFSET;
+                if sector::key_right(r) {
+                    Outcome::Found(part_at(at + 6, sector::key_length(r)))
+                } else {
+                    Outcome::Refused(format::key_wrong(at))
+                }
+            }
+            Wanted::TheData => {
+                let at = from + sector::data_offset(r);
+                if sector::data_right(r) {
+                    Outcome::Found(part_at(at + 6, sector::data_length(r)))
+                } else {
+                    Outcome::Refused(format::data_wrong(at))
+                }
+            }
+        }
+    } else {
+        Outcome::Refused(format::span_too_short(x.place))
+    }
+}
+
+// The part asked for of the only candidate that carries S: 12 where there is none, 13 with the place of the second where there are more.
+fn only_part(track: &[u8], marks: &[u8], s: u8, wanted: Wanted) -> Outcome
+    ensures { λ r. ⌜ judgedPart r ≡ findCells s (asWanted wanted) (cells (now (track .entry)) (now (marks .entry))) ⌝ }
+    ensures { λ r. ⌜ partWithin r (length (now (track .entry))) ⌝ }
+{
+    let home = search::find_home(track, marks);
+    match next_carrying(track, marks, home, 0, s) {
+        Standing::Stands(x) => match next_carrying(track, marks, home, x.place + 1, s) {
+            Standing::Stands(y) => Outcome::Refused(format::sector_repeated(y.place)),
+            Standing::Not => part_of(track, x, wanted),
+        },
+        Standing::Not => Outcome::Refused(format::sector_missing()),
+    }
+}
+
+// Where the key's or the data's information of sector S lies in the lent track; 1 first.
+pub fn find_part(track: &[u8], marks: &[u8], s: u8, wanted: Wanted) -> Outcome
+    ensures { λ r. ⌜ judgedPart r ≡ find s (asWanted wanted) (now (track .entry)) (now (marks .entry)) ⌝ }
+    ensures { λ r. ⌜ partWithin r (length (now (track .entry))) ⌝ }
+{
+    if search::lent_for_reading(track, marks) {
+        only_part(track, marks, s, wanted)
+    } else {
+        Outcome::Refused(format::lent_wrong())
+    }
+}
+
+// The key's or the data's information of sector S, as a part of the lent track; the empty part where it is refused.
+pub fn find<'a>(track: &'a [u8], marks: &'a [u8], s: u8, wanted: Wanted) -> &'a [u8]
+    ensures { λ r. ⌜ now r ≡ handedOut (now (track .entry)) (find s (asWanted wanted) (now (track .entry)) (now (marks .entry))) ⌝ }
+{
+    match find_part(track, marks, s, wanted) {
+        Outcome::Found(x) => {
+            let from = x.start;
+            let to = x.start + x.size;
+            &track[from..to]
+        }
+        Outcome::Refused(_) => &track[0..0],
+    }
+}

@@ -1,0 +1,242 @@
+-- The sectors of an accepted track from a place on, as a loop steps over them.
+use mathlib.Core.Path.{_≡_, refl, sym, ap, ap₂, _∙_, subst}
+use Prim.Native.Nat.{ℕ, suc, _+_, _≤_, _<_}
+use native.Mathlib.Omega.{arith}
+use mathlib.Core.Bool.{Bool, true, false, _&&_}
+use mathlib.Core.List.{List, [], _∷_, _++_}
+use lib.ListN.{length, take, drop, length-append, length-drop}
+use lib.Seq.{drop-drop, drop-append-seam}
+use lib.Dec.{leb, eqb}
+use borrow.Author.Tests.{leb-true, eqb-true}
+use Rattle.format.specs.Judged.{good}
+use Rattle.format.specs.Lent.{lengthRight, marksLegal, lentForWriting, lentForReading, cells}
+use Rattle.format.specs.Home.{Home, firstCountPlace}
+use Rattle.format.specs.Count.{Settled, unsettled}
+use Rattle.format.specs.Span.{runsToIndex, spanLength, afterOpening, joined, none}
+use Rattle.format.specs.Sector.{Sector, openingLength, isFirst, sectorIn, settle, readSpan}
+use Rattle.format.specs.Accept.{Placed, placedFrom, Accepted, spansOf, acceptCells, accept}
+use Rattle.format.specs.Listing.{Listed, listed}
+use Rattle.format.specs.Add.{endOf}
+use Rattle.format.proofs.Judged.{and-both, false-true}
+use Rattle.format.proofs.Shape.{Shape, cleanSpan, cleanSpans}
+use Rattle.format.proofs.Cutting.{joined-spans}
+use Rattle.format.proofs.HomeLocal.{home-window}
+use Rattle.format.proofs.SpanAgrees.{span-agrees}
+use Rattle.format.proofs.ReadSector.{behindOpening, read-inv, span-least}
+use Rattle.format.proofs.Standing.{FitsCount, info-fits}
+use Rattle.format.proofs.ReadBack.{read-stands}
+use Rattle.format.proofs.ReadsAs.{Reads, accepted-by}
+use Rattle.format.proofs.AcceptedSpans.{accepted-track}
+use Rattle.format.proofs.Pairs.{accepted-pair, lent-length}
+use Rattle.format.proofs.SpanCandidates.{shape-rest, none-placed}
+use Rattle.search.proofs.Cells.{length-cells}
+use Rattle.sectors.specs.declared.SectorAt.{SectorAt}
+use Rattle.sectors.specs.Stepped.{Stepped, steppedAt, addressAt, asStepped, asListed}
+use Rattle.sectors.proofs.Stepping.{Stepping, shownBy, stepping-made}
+
+-- From place p on the track t with the marks m has exactly the sectors xs; `first` says that the first of them is sector 0.
+abbrev pub SectorsFrom : List ℕ → List ℕ → ℕ → Bool → List Placed → Type 0
+SectorsFrom t m p first [] = p ≡ length (cells t m)
+SectorsFrom t m p first (x ∷ xs) = Stepping t m p first x (none xs) × SectorsFrom t m (p + length (x .span)) false xs
+
+-- The span g in position i, at place p, shows its sector.
+span-steps : (t m : List ℕ) (h : Home) (i : ℕ) (x : Settled) (p : ℕ) (g : List ℕ) (gs : List (List ℕ)) (s : Sector) → readSpan h i x p (none gs) g ≡ good s
+    → Shape i (g ∷ gs) → cleanSpans i (g ∷ gs) ≡ true → drop p (cells t m) ≡ joined (g ∷ gs) → p ≤ length (cells t m) → length (cells t m) ≤ 4002
+    → Stepping t m p (isFirst i) (record { place = p; span = g; sector = s }) (none gs)
+unfolding cleanSpans
+span-steps t m h i x p g gs s e k c d l w =
+    let v = read-inv h i x p (none gs) g s e in
+    let o : ℕ = openingLength (isFirst i) in
+    let r : List ℕ = behindOpening i g in
+    let n = span-least h i x (none gs) g s v in
+    let a = span-agrees i g gs k c (omega arith) in
+    let u = and-both (cleanSpan i g) (cleanSpans (suc i) gs) c in
+    let f : FitsCount s = info-fits s (read-stands h i x p (none gs) g s (u .0) e .count-bytes) in
+    subst (λ (z : Sector). Stepping t m p (isFirst i) (record { place = p; span = g; sector = z }) (none gs)) (sym (v .sector-is))
+    (stepping-made t m (isFirst i) p g (none gs) r refl
+    (ap (spanLength o) d ∙ a .0)
+    (ap (afterOpening o) d ∙ a .1)
+    (ap (runsToIndex o) d ∙ a .2)
+    (omega (arith, ap length d, length-drop p (cells t m), length-append g (joined gs)))
+    (omega arith)
+    (omega (arith, length-drop o g))
+    (v .blocks-fit)
+    (subst FitsCount (v .sector-is) f))
+
+-- So do all spans that are read.
+spans-step : (t m : List ℕ) (h : Home) (i : ℕ) (x : Settled) (p : ℕ) (gs : List (List ℕ)) (ss : List Sector) → Reads h i x p gs ss → Shape i gs → cleanSpans i gs ≡ true
+    → drop p (cells t m) ≡ joined gs → p ≤ length (cells t m) → length (cells t m) ≤ 4002 → SectorsFrom t m p (isFirst i) (placedFrom p gs ss)
+unfolding placedFrom cleanSpans
+spans-step t m h i x p [] [] e k c d l w = omega (arith, ap length d, length-drop p (cells t m))
+spans-step t m h i x p [] (s ∷ ss) e k c d l w = absurd e
+spans-step t m h i x p (g ∷ gs) [] e k c d l w = absurd e
+spans-step t m h i x p (g ∷ gs) (s ∷ ss) e k c d l w =
+    let q : ℕ = p + length g in
+    let d′ : drop q (cells t m) ≡ joined gs = sym (drop-drop (length g) p (cells t m)) ∙ ap (drop (length g)) d ∙ drop-append-seam g (joined gs) in
+    let j : q ≤ length (cells t m) = omega (arith, ap length d, length-drop p (cells t m), length-append g (joined gs)) in (
+      subst (Stepping t m p (isFirst i) (record { place = p; span = g; sector = s })) (sym (none-placed h (suc i) (settle x s) q gs ss (e .1)))
+          (span-steps t m h i x p g gs s (e .0) k c d l w),
+      spans-step t m h (suc i) (settle x s) q gs ss (e .1) (shape-rest i g gs k) (and-both (cleanSpan i g) (cleanSpans (suc i) gs) c .1) d′ j w,
+    )
+
+-- Where stepping over an accepted track starts.
+pub record Started (t m : List ℕ) (a : Accepted) : Type 0 where
+  pub steps : SectorsFrom t m (firstCountPlace (a .home .place)) true (a .sectors)
+  pub some-sector : none (a .sectors) ≡ false
+  pub start-least : 48 ≤ firstCountPlace (a .home .place)
+  pub start-most : firstCountPlace (a .home .place) ≤ 62
+  pub cells-length : length (cells t m) ≡ length t
+  pub marks-length : length m ≡ length t
+  pub length-least : 3815 ≤ length t
+  pub length-most : length t ≤ 4002
+
+-- A pair that is lent within the rule has as many marks as bytes.
+marks-as-many : (t m : List ℕ) → lentForReading t m ≡ true → length m ≡ length t
+unfolding lentForReading lentForWriting
+marks-as-many t m e =
+    let w = and-both (lengthRight (length t) && eqb (length m) (length t)) (marksLegal m) e in
+    eqb-true (length m) (length t) (and-both (lengthRight (length t)) (eqb (length m) (length t)) (w .0) .1)
+
+-- Stepping over an accepted track starts so.
+pub accepted-start : (t m : List ℕ) (a : Accepted) → accept t m ≡ good a → Started t m a
+unfolding lengthRight
+accepted-start t m a e =
+    let b = accepted-pair t m a e in
+    let l = lent-length t m (b .0) in
+    let w = and-both (leb 3815 (length t)) (leb (length t) 4002) (l .1) in
+    let c : List ℕ = cells t m in
+    let p : ℕ = firstCountPlace (a .home .place) in
+    let v = accepted-track c a (b .1) in
+    let home = home-window c (a .home) (accepted-by c a (b .1) .home-judged) in
+    let most : length t ≤ 4002 = leb-true (length t) 4002 (w .1) in
+    let least : 3815 ≤ length t = leb-true 3815 (length t) (w .0) in
+    let steps : SectorsFrom t m p true (a .sectors) =
+    subst (λ (z : Accepted). SectorsFrom t m p true (z .sectors)) (v .3)
+    (spans-step t m (a .home) 0 unsettled p (spansOf (a .home) c) (v .0) (v .1 .reads) (v .1 .shape) (v .1 .clean) (sym (joined-spans (drop p c))) (omega arith) (omega arith)) in
+    record {
+      steps = steps;
+      some-sector = some (a .sectors) steps (omega arith);
+      start-least = omega arith;
+      start-most = omega arith;
+      cells-length = l .0;
+      marks-length = marks-as-many t m (b .0);
+      length-least = least;
+      length-most = most;
+    }
+  where
+    some : (xs : List Placed) → SectorsFrom t m (firstCountPlace (a .home .place)) true xs → firstCountPlace (a .home .place) < length (cells t m) → none xs ≡ false
+    some [] s l = absurd (omega arith)
+    some (x ∷ xs) s l = refl
+
+-- An accepted track has its sectors from sector 0's place on.
+pub accepted-steps : (t m : List ℕ) (a : Accepted) → accept t m ≡ good a → SectorsFrom t m (firstCountPlace (a .home .place)) true (a .sectors)
+accepted-steps t m a e = accepted-start t m a e .steps
+
+-- The place that is come to lies on the track or is its end.
+pub steps-within : (t m : List ℕ) (p : ℕ) (first : Bool) (xs : List Placed) → SectorsFrom t m p first xs → p ≤ length (cells t m)
+steps-within t m p first [] e = omega arith
+steps-within t m p first (x ∷ xs) (e, r) = omega arith
+
+-- At the end there is no sector left.
+pub steps-end : (t m : List ℕ) (p : ℕ) (first : Bool) (xs : List Placed) → SectorsFrom t m p first xs → length (cells t m) ≤ p → xs ≡ []
+steps-end t m p first [] e l = refl
+steps-end t m p first (x ∷ xs) (e, r) l = absurd (omega arith)
+
+-- The sector that `sector_at` gives at place p, before the end, is the first of the sectors xs that are left; the later ones are left from the next place on.
+pub record Step (t m : List ℕ) (p : ℕ) (first : Bool) (xs : List Placed) (s : SectorAt) : Type 0 where
+  pub x : Placed
+  pub later : List Placed
+  pub split : xs ≡ x ∷ later
+  pub place-is : x .place ≡ p
+  pub first-is : x .sector .first ≡ first
+  pub flag-is : s .flag ≡ x .sector .flag
+  pub number-is : s .number ≡ x .sector .number
+  pub address-is : addressAt first p (cells t m) ≡ x .sector .address
+  pub key-length-is : s .«key_length» ≡ length (x .sector .keyBytes)
+  pub data-length-is : s .«data_length» ≡ length (x .sector .dataBytes)
+  pub listed-is : asListed s ≡ listed x
+  pub end-is : s .end ≡ endOf x
+  pub next-is : s .next ≡ p + length (x .span)
+  pub last-is : s .last ≡ none later
+  pub key-bytes : take (s .«key_length») (drop (s .«key_place») t) ≡ x .sector .keyBytes
+  pub data-bytes : take (s .«data_length») (drop (s .«data_place») t) ≡ x .sector .dataBytes
+  pub fits : FitsCount (x .sector)
+  pub key-inside : s .«key_place» + s .«key_length» ≤ s .«data_place»
+  pub data-inside : s .«data_place» + s .«data_length» < s .end
+  pub end-inside : s .end + 13 ≤ s .next
+  pub onward : p + 49 ≤ s .next
+  pub next-inside : s .next ≤ length (cells t m)
+  pub within : length (cells t m) ≤ length t
+  pub stepping : Stepping t m p first x (none later)
+  pub rest : SectorsFrom t m (s .next) false later
+
+-- The sector that is given stands at place p.
+step-made : (t m : List ℕ) (p : ℕ) (first : Bool) (x : Placed) (xs : List Placed) (s : SectorAt) → Stepping t m p first x (none xs)
+    → SectorsFrom t m (p + length (x .span)) false xs → asStepped s ≡ steppedAt first p (cells t m) → Step t m p first (x ∷ xs) s
+unfolding listed
+step-made t m p first x xs s v r e =
+    let flag : s .flag ≡ x .sector .flag = ap (λ (z : Stepped). z .flag) e ∙ v .flag-is in
+    let number : s .number ≡ x .sector .number = ap (λ (z : Stepped). z .number) e ∙ v .number-is in
+    let kl : s .«key_length» ≡ length (x .sector .keyBytes) = ap (λ (z : Stepped). z .keyLength) e ∙ v .key-length-is in
+    let dl : s .«data_length» ≡ length (x .sector .dataBytes) = ap (λ (z : Stepped). z .dataLength) e ∙ v .data-length-is in
+    let kp : s .«key_place» ≡ listed x .keyPlace = ap (λ (z : Stepped). z .keyPlace) e ∙ v .key-place-is in
+    let dp : s .«data_place» ≡ listed x .dataPlace = ap (λ (z : Stepped). z .dataPlace) e ∙ v .data-place-is in
+    let end : s .end ≡ endOf x = ap (λ (z : Stepped). z .end) e ∙ v .end-is in
+    let next : s .next ≡ p + length (x .span) = ap (λ (z : Stepped). z .next) e ∙ v .next-is in
+    record {
+      x = x;
+      later = xs;
+      split = refl;
+      place-is = v .place-is;
+      first-is = v .first-is;
+      flag-is = flag;
+      number-is = number;
+      address-is = v .address-is;
+      key-length-is = kl;
+      data-length-is = dl;
+      listed-is = λ i. record { flag = flag i; number = number i; keyLength = kl i; dataLength = dl i; keyPlace = kp i; dataPlace = dp i };
+      end-is = end;
+      next-is = next;
+      last-is = ap (λ (z : Stepped). z .last) e ∙ v .last-is;
+      key-bytes = ap₂ (λ (n q : ℕ). take n (drop q t)) kl kp ∙ v .key-bytes;
+      data-bytes = ap₂ (λ (n q : ℕ). take n (drop q t)) dl dp ∙ v .data-bytes;
+      fits = v .fits;
+      key-inside = bound kp kl dp (v .key-inside);
+      data-inside = below dp dl end (v .data-inside);
+      end-inside = omega (arith, end, next, v .end-inside);
+      onward = omega (arith, next, v .span-least);
+      next-inside = omega (arith, next, v .span-inside);
+      within = omega (arith, length-cells t m);
+      stepping = v;
+      rest = subst (λ (q : ℕ). SectorsFrom t m q false xs) (sym next) r;
+    }
+  where
+    bound : {a b c a′ b′ c′ : ℕ} → a ≡ a′ → b ≡ b′ → c ≡ c′ → a′ + b′ ≤ c′ → a + b ≤ c
+    bound e f g h = omega arith
+
+    below : {a b c a′ b′ c′ : ℕ} → a ≡ a′ → b ≡ b′ → c ≡ c′ → a′ + b′ < c′ → a + b < c
+    below e f g h = omega arith
+
+-- What a step before the end gives.
+pub step-at : (t m : List ℕ) (p : ℕ) (first : Bool) (xs : List Placed) (s : SectorAt) → SectorsFrom t m p first xs → p < length (cells t m)
+    → asStepped s ≡ steppedAt first p (cells t m) → Step t m p first xs s
+step-at t m p first [] s f l e = absurd (omega arith)
+step-at t m p first (x ∷ xs) s (v, r) l e = step-made t m p first x xs s v r e
+
+-- A span that runs to index is the last one.
+pub step-last : (t m : List ℕ) (p : ℕ) (first : Bool) (xs : List Placed) (s : SectorAt) (v : Step t m p first xs s) → s .last ≡ true
+    → (v .later ≡ []) × (s .next ≡ length (cells t m))
+step-last t m p first xs s v e = go (v .later) (sym (v .last-is) ∙ e) (v .rest)
+  where
+    go : (ys : List Placed) → none ys ≡ true → SectorsFrom t m (s .next) false ys → (ys ≡ []) × (s .next ≡ length (cells t m))
+    go [] n r = (refl, r)
+    go (y ∷ ys) n r = false-true n
+
+-- After any other span a sector follows.
+pub step-more : (t m : List ℕ) (p : ℕ) (first : Bool) (xs : List Placed) (s : SectorAt) (v : Step t m p first xs s) → s .last ≡ false
+    → (none (v .later) ≡ false) × (s .next < length (cells t m))
+step-more t m p first xs s v e = go (v .later) (sym (v .last-is) ∙ e) (v .rest)
+  where
+    go : (ys : List Placed) → none ys ≡ false → SectorsFrom t m (s .next) false ys → (none ys ≡ false) × (s .next < length (cells t m))
+    go [] n r = false-true (sym n)
+    go (y ∷ ys) n (w, r) = (refl, omega arith)

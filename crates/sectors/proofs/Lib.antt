@@ -1,0 +1,5 @@
+-- The laws of stepping over sectors.
+pub mod Rest
+pub mod Stepping
+pub mod From
+pub mod Number

@@ -1,0 +1,90 @@
+-- `sector_in` meets its contract: KL and DL are bytes, so that no sum is too large.
+use mathlib.Core.Path.{_≡_, refl, ap}
+use mathlib.Core.Logic.{⊎-elim}
+use Prim.Native.Nat.{ℕ, _+_}
+use native.Mathlib.Omega.{arith}
+use lib.Dec.{eqb}
+use Rattle.crc.specs.Check.{pick}
+use Rattle.format.specs.Block.{keyOffset}
+use Rattle.sector.proofs.Block.{offset-lt, end-lt}
+use Rattle.sectors.proofs.Rest.{key-place-none, key-place-some, stepped-made}
+use borrow.Author.Needs.{needs}
+use Rattle.sectors.proofs.sector_in.Statement.{statement}
+use Rattle.sectors.proofs.sector_in.Tie as tie
+
+key-length-requires : tie.Need-key-length-requires
+key-length-requires c κs = search needs
+
+data-length-requires : tie.Need-data-length-requires
+data-length-requires c κs = search needs
+
+block-end-requires : tie.Need-block-end-requires
+block-end-requires c κs = search needs
+
+add-end : tie.Need-add-end
+add-end c =
+    let g = c .before .before .before .shared-slice-known .given in
+    let r = c .before .before .before .before .args .r .now in
+    omega (arith, end-lt r (omega (arith, g 6)) (omega (arith, g 7)) (omega (arith, g 8)))
+
+add-key-place : tie.Need-add-key-place
+add-key-place c = search needs
+
+add-key-place-2 : tie.Need-add-key-place-2
+add-key-place-2 c = search needs
+
+byte-at-requires : tie.Need-byte-at-requires
+byte-at-requires c κs = search needs
+
+byte-at-requires-2 : tie.Need-byte-at-requires-2
+byte-at-requires-2 c κs = search needs
+
+data-offset-requires : tie.Need-data-offset-requires
+data-offset-requires c κs = search needs
+
+add-t15 : tie.Need-add-t15
+add-t15 c =
+    let g = c .before .before .before .before .before .before .before .shared-slice-known .given in
+    let r = c .before .before .before .before .before .before .before .before .args .r .now in
+    omega (arith, offset-lt r (omega (arith, g 6)))
+
+add-t16 : tie.Need-add-t16
+add-t16 c =
+    let g = c .before .before .before .before .before .before .before .shared-slice-known .given in
+    let r = c .before .before .before .before .before .before .before .before .args .r .now in
+    omega (arith, offset-lt r (omega (arith, g 6)))
+
+returns : tie.Need-returns
+returns c =
+    let a = c .before .before .before .before .before .before .before .before .args in
+    let k = c .before .before .before .before .before .before .key-length in
+    let v = c .before .before .before .if1 .key-place in
+    let w : v ≡ pick (eqb (k .result) 0) 0 (a .q + keyOffset + 6) =
+    ⊎-elim (λ u. key-place-none (k .result) (a .q) v (u .0 .taken) (u .1)) (λ u. key-place-some (k .result) (a .q) v (u .0 .left) (u .1)) (c .before .before .before .if1 .came) in
+    stepped-made (a .q) (a .next) (a .last) (a .r .now) _
+    (c .before .before .byte-at .ensures)
+    (c .before .byte-at2 .ensures)
+    (k .ensures)
+    (c .before .before .before .before .before .data-length .ensures)
+    w
+    (ap (λ (z : ℕ). a .q + z + 6) (c .data-offset .ensures))
+    (ap (λ (z : ℕ). a .q + z) (c .before .before .before .before .block-end .ensures))
+    refl
+    refl
+
+pub sector-in-spec : {M : Type 1} → statement M
+sector-in-spec =
+    tie.close
+    (tie.spec
+    key-length-requires
+    data-length-requires
+    block-end-requires
+    add-end
+    add-key-place
+    add-key-place-2
+    byte-at-requires
+    byte-at-requires-2
+    data-offset-requires
+    add-t15
+    add-t16
+    returns)

@@ -1,0 +1,3 @@
+-- What stepping over the sectors of a track gives.
+pub mod Stepped
+pub mod Number
