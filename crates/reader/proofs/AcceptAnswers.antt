@@ -2,22 +2,20 @@
 use mathlib.Core.Path.{_≡_, refl, sym, ap, _∙_}
 use Prim.Native.Nat.{ℕ, zero, suc, _+_, _%_}
 use native.Mathlib.Omega.{arith}
-use mathlib.Core.Bool.{Bool, true, false, _&&_}
+use mathlib.Core.Bool.{Bool, true, false}
 use mathlib.Core.List.{List, [], _∷_}
 use lib.ListN.{length, getD, drop}
 use lib.Dec.{eqb}
 use borrow.Author.Tests.{ne-eqb, eqb-true, eqb-false}
-use Rattle.crc.specs.Check.{pick}
-use Rattle.format.specs.Answer.{Answer, spanTooShort, countCheckWrong, countFieldsWrong, keyWrong, dataWrong, firstCountMissing}
+use Rattle.format.specs.Answer.{Answer, spanTooShort, countCheckWrong, countFieldsWrong, keyWrong, dataWrong}
 use Rattle.format.specs.Judged.{Judged, good, refused, then, require, answerOf}
-use Rattle.format.specs.Opening.{startsWith, plainOpening}
-use Rattle.format.specs.Flag.{alternation, overflow, sequenceRight, countFlagRight}
+use Rattle.format.specs.Flag.{sequenceRight, countFlagRight}
 use Rattle.format.specs.Address.{Address}
 use Rattle.format.specs.Home.{Home}
-use Rattle.format.specs.Count.{Settled, unsettled, settled, countFits, countClosed, countFieldsRight}
+use Rattle.format.specs.Count.{Settled, settled, countFits, countClosed, countFieldsRight}
 use Rattle.format.specs.Block.{keyOffset, dataOffset, blocksFit, keyRight, dataRight}
 use Rattle.format.specs.Span.{none}
-use Rattle.format.specs.Sector.{Sector, openingLength, isFirst, sectorIn, settle, judgeCount, readBlocks, readSpan}
+use Rattle.format.specs.Sector.{openingLength, isFirst, sectorIn, settle, judgeCount, readBlocks, readSpan}
 use Rattle.format.specs.Accept.{readSpans}
 use Rattle.format.proofs.Judged.{cases}
 use Rattle.reader.specs.Accepting.{judgeSector}

@@ -1,14 +1,14 @@
 -- The track behind its home: what each refusal and each good step give.
-use mathlib.Core.Path.{_≡_, refl, sym, ap, ap₂, _∙_}
-use Prim.Native.Nat.{ℕ, zero, suc, _+_, _≤_, _<_}
+use mathlib.Core.Path.{_≡_, refl, sym, ap, _∙_}
+use Prim.Native.Nat.{ℕ, zero, suc, _+_, _≤_}
 use native.Mathlib.Omega.{arith}
-use mathlib.Core.Bool.{Bool, true, false, not, _&&_}
+use mathlib.Core.Bool.{Bool, true, false, not}
 use mathlib.Core.List.{List, [], _∷_}
 use lib.ListN.{length, drop}
 use lib.Dec.{leb, eqb}
 use borrow.Author.Tests.{leb-true, eqb-true}
 use Rattle.format.specs.Answer.{Answer, lentWrong, firstCountMissing, sectorRepeated}
-use Rattle.format.specs.Judged.{Judged, good, refused, then, require, answerOf}
+use Rattle.format.specs.Judged.{Judged, good, refused, then, answerOf}
 use Rattle.format.specs.Lent.{lengthRight, marksLegal, lentForWriting, lentForReading, cells}
 use Rattle.format.specs.Opening.{startsWith, plainOpening}
 use Rattle.format.specs.Home.{Home, judgeHome, firstCountPlace}
@@ -16,8 +16,8 @@ use Rattle.format.specs.Count.{Settled, unsettled, countNumber}
 use Rattle.format.specs.Span.{beforeOpening, laterSpans, spans, none}
 use Rattle.format.specs.Sector.{Sector, openingLength, isFirst, sectorIn, settle, readSpan}
 use Rattle.format.specs.Accept.{judgeMarks, readSpans, Placed, placedFrom, among, judgeNumbers, Accepted, spansOf, firstCountEnd, acceptCells, accept}
-use Rattle.format.proofs.Judged.{and-both, then-good}
-use Rattle.format.proofs.ReadSector.{ReadAs, read-inv}
+use Rattle.format.proofs.Judged.{and-both}
+use Rattle.format.proofs.ReadSector.{read-inv}
 use Rattle.format.proofs.ReadsAs.{Reads, read-reads, reads-read}
 use Rattle.format.proofs.Marks.{marks-clean}
 use Rattle.format.proofs.StrayMark.{marks-stray}

@@ -1,23 +1,23 @@
 -- Sector 0 on a track without stray marks: its span by the next mark, and what is left behind it.
 use mathlib.Core.Path.{_≡_, refl, sym, ap, ap₂, _∙_}
-use Prim.Native.Nat.{ℕ, zero, suc, _+_, _-_, _≤_, _<_}
+use Prim.Native.Nat.{ℕ, _+_, _-_, _≤_}
 use native.Mathlib.Omega.{arith}
-use mathlib.Core.Bool.{Bool, true, false, _&&_}
+use mathlib.Core.Bool.{Bool, true, false}
 use mathlib.Core.List.{List, [], _∷_, _++_}
 use lib.ListN.{length, take, drop, length-append, length-drop}
 use lib.Seq.{drop-at, drop-drop}
 use Rattle.format.specs.Answer.{Answer, firstCountMissing}
-use Rattle.format.specs.Judged.{good, answerOf}
+use Rattle.format.specs.Judged.{answerOf}
 use Rattle.format.specs.Lent.{cells}
 use Rattle.format.specs.Opening.{startsWith, plainOpening}
 use Rattle.format.specs.Address.{Address, addressIn}
 use Rattle.format.specs.Home.{Home}
-use Rattle.format.specs.Count.{Settled, unsettled, settled}
+use Rattle.format.specs.Count.{unsettled, settled}
 use Rattle.format.specs.Span.{runsToIndex, spanLength, afterOpening, beforeOpening, laterSpans, spans, joined, none}
 use Rattle.format.specs.Sector.{sectorIn, settle, readSpan}
 use Rattle.format.specs.Accept.{readSpans}
 use Rattle.format.proofs.Judged.{and-both}
-use Rattle.format.proofs.Shape.{Shape, cleanSpan, cleanSpans, FirstReaches}
+use Rattle.format.proofs.Shape.{cleanSpan, cleanSpans, FirstReaches}
 use Rattle.format.proofs.Opening.{starts-with-append}
 use Rattle.format.proofs.Cutting.{before-joined, before-whole, shape-spans, shape-later, later-joined}
 use Rattle.format.proofs.Marks.{marks-clean}

@@ -1,12 +1,12 @@
 -- Home by the bytes that follow its opening.
-use mathlib.Core.Path.{_≡_, refl, sym, ap, _∙_}
+use mathlib.Core.Path.{_≡_, refl, ap, _∙_}
 use Prim.Native.Nat.{ℕ, _+_, _-_, _≤_, _<_}
 use native.Mathlib.Omega.{arith}
 use mathlib.Core.List.{List}
 use lib.ListN.{length, getD, take, drop, length-take, length-drop}
 use Rattle.format.specs.Answer.{homeMissing, homeCheckWrong}
 use Rattle.format.specs.Judged.{good, refused}
-use Rattle.format.specs.Lent.{cells, bytesOf}
+use Rattle.format.specs.Lent.{cells}
 use Rattle.format.specs.Home.{findHome, homeBytes, homeAt, judgeHome}
 use Rattle.format.proofs.Pairs.{length-bytes}
 use Rattle.sector.proofs.Opening.{closed-short}

@@ -1,19 +1,19 @@
 -- Answer 13 by a table of flags, one for each number, from one sector to the next.
-use mathlib.Core.Path.{_≡_, refl, sym, ap, ap₂, _∙_, subst}
-use Prim.Native.Nat.{ℕ, zero, suc, _+_, _-_, _≤_, _<_}
+use mathlib.Core.Path.{_≡_, refl, sym, ap, _∙_}
+use Prim.Native.Nat.{ℕ, suc, _+_, _-_, _≤_, _<_}
 use native.Mathlib.Omega.{arith}
-use mathlib.Core.Bool.{Bool, true, false, not, _&&_, _||_}
+use mathlib.Core.Bool.{Bool, true, false, not, _||_}
 use mathlib.Core.List.{List, [], _∷_}
 use lib.ListN.{length, getD, take, drop, set, replicate, length-drop, length-set, length-replicate, getD-replicate}
 use lib.Seq.{drop-drop, getD-set-same, getD-set-other}
-use lib.Dec.{eqb, ltb}
+use lib.Dec.{eqb}
 use borrow.Author.Tests.{eq-eqb, ne-eqb, eqb-true, eqb-false, le-ltb}
 use Rattle.format.specs.Answer.{sectorRepeated}
 use Rattle.format.specs.Judged.{Judged, good, refused, require}
 use Rattle.format.specs.Lent.{cells, unmarked}
 use Rattle.format.specs.Opening.{startsWith, plainOpening}
 use Rattle.format.specs.Count.{countNumber}
-use Rattle.format.specs.Span.{runsToIndex, spanLength, afterOpening, beforeOpening, laterSpans, spans}
+use Rattle.format.specs.Span.{spanLength, afterOpening, beforeOpening, laterSpans, spans}
 use Rattle.format.specs.Sector.{openingLength}
 use Rattle.format.specs.Accept.{among}
 use Rattle.format.proofs.Judged.{cases, and-both}
@@ -21,7 +21,7 @@ use Rattle.format.proofs.Shape.{cleanSpan, cleanSpans}
 use Rattle.format.proofs.Opening.{unmarked-at, unmarked-drop}
 use Rattle.format.proofs.Marks.{marks-clean}
 use Rattle.search.proofs.Cells.{drop-cells}
-use Rattle.reader.specs.Accepting.{Rest, Unstrayed, numbersIn, Standing, placeWithin, sectorOf, sectorAt}
+use Rattle.reader.specs.Accepting.{Rest, Unstrayed, numbersIn, SectorHere, placeWithin, sectorOf, sectorAt}
 use Rattle.reader.proofs.AcceptSpans.{Front, front, after-bytes, no-span}
 use Rattle.reader.proofs.AcceptFirst.{First, first-front}
 
@@ -90,20 +90,20 @@ pub record Passed (t m : List ℕ) (q number next : ℕ) : Type 0 where
   pub within : next ≤ length t
 
 -- The later sector x at place q, where what is left starts with it.
-pub passed : (t m : List ℕ) (q : ℕ) (x : Standing) → x ≡ sectorAt false (placeWithin q) (drop (placeWithin q) (cells t m))
+pub passed : (t m : List ℕ) (q : ℕ) (x : SectorHere) → x ≡ sectorAt false (placeWithin q) (drop (placeWithin q) (cells t m))
     → q < length t → length t ≤ 4002 → Rest q (drop q t) (drop q m) → Passed t m q (x .listed .number) (x .next)
 passed t m q x e l w r =
     let c : List ℕ = cells (drop q t) (drop q m) in
     let y : x ≡ sectorAt false q c =
     e ∙ ap (λ (k : ℕ). sectorAt false k (drop k (cells t m))) (within-is q (omega arith)) ∙ ap (sectorAt false q) (drop-cells q t m) in
-    let n : x .next ≡ q + spanLength 8 c = ap (λ (z : Standing). z .next) y ∙ next-at false q c in
+    let n : x .next ≡ q + spanLength 8 c = ap (λ (z : SectorHere). z .next) y ∙ next-at false q c in
     let k : x .next - q ≡ spanLength 8 c = omega arith in
     let f : Front q (x .next - q) (drop q t) (drop q m) = front q (drop q t) (drop q m) (x .next - q) r k (omega (arith, length-drop q t)) in
     let b : afterOpening 8 c ≡ drop 8 (f .span) =
     sym (after-bytes (drop q t) (drop q m) 0 8) ∙ ap (λ (j : ℕ). take (j - 8) (drop 8 (drop q t))) (sym k) ∙ f .bytes in
     record {
       front-is = f;
-      number-is = ap (λ (z : Standing). z .listed .number) y ∙ number-at false q c ∙ ap (λ (z : List ℕ). countNumber z) b;
+      number-is = ap (λ (z : SectorHere). z .listed .number) y ∙ number-at false q c ∙ ap (λ (z : List ℕ). countNumber z) b;
       further = omega (arith, f .opening);
       within = omega (arith, f .fits, length-drop q t);
     }
@@ -133,12 +133,12 @@ module _ (t m : List ℕ) (q number next : ℕ) (s : Passed t m q number next) w
 
 -- Sector 0 at place p: its number is the first that is passed, and what is left behind it decides.
 module _ (t m : List ℕ) (p : ℕ) (u : Unstrayed p t m) (o : startsWith plainOpening (drop p (cells t m)) ≡ true)
-    (x : Standing) (e : x ≡ sectorAt true (placeWithin p) (drop (placeWithin p) (cells t m))) where
+    (x : SectorHere) (e : x ≡ sectorAt true (placeWithin p) (drop (placeWithin p) (cells t m))) where
   zero-is : x ≡ sectorAt true p (drop p (cells t m))
   zero-is = e ∙ ap (λ (k : ℕ). sectorAt true k (drop k (cells t m))) (within-is p (omega (arith, u .reach, u .within)))
 
   zero-next : x .next ≡ p + spanLength 6 (drop p (cells t m))
-  zero-next = ap (λ (z : Standing). z .next) zero-is ∙ next-at true p (drop p (cells t m))
+  zero-next = ap (λ (z : SectorHere). z .next) zero-is ∙ next-at true p (drop p (cells t m))
 
   zero-front : First p (x .next - p) t m
   zero-front = first-front p t m (x .next - p) u o (omega (arith, zero-next))
@@ -148,7 +148,7 @@ module _ (t m : List ℕ) (p : ℕ) (u : Unstrayed p t m) (o : startsWith plainO
       let c : List ℕ = drop p (cells t m) in
       let k : x .next - p ≡ spanLength 6 c = omega (arith, zero-next) in
       let j : p + (x .next - p) - (p + 6) ≡ spanLength 6 c - 6 = omega arith in
-      ap (λ (z : Standing). z .listed .number) zero-is ∙ number-at true p c
+      ap (λ (z : SectorHere). z .listed .number) zero-is ∙ number-at true p c
       ∙ ap (λ (z : List ℕ). countNumber z) (sym (after-bytes t m p 6) ∙ ap (λ (i : ℕ). take i (drop (p + 6) t)) (sym j) ∙ zero-front .bytes)
 
   -- Where the next sector starts, or the track ends.

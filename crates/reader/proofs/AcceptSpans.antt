@@ -1,10 +1,10 @@
 -- The spans of what is left of a track: the first one by the next mark, and what is left behind it.
-use mathlib.Core.Path.{_≡_, refl, sym, ap, ap₂, _∙_, subst}
-use Prim.Native.Nat.{ℕ, zero, suc, _+_, _-_, _*_, _≤_, _<_}
+use mathlib.Core.Path.{_≡_, refl, sym, ap, ap₂, _∙_}
+use Prim.Native.Nat.{ℕ, suc, _+_, _-_, _*_, _≤_, _<_}
 use native.Mathlib.Omega.{arith}
-use mathlib.Core.Bool.{Bool, true, false, _&&_}
+use mathlib.Core.Bool.{Bool, true}
 use mathlib.Core.List.{List, [], _∷_, _++_}
-use lib.ListN.{length, getD, take, drop, length-append, length-take, length-drop}
+use lib.ListN.{length, take, drop, length-append, length-take, length-drop}
 use lib.Dec.{ltb}
 use borrow.Author.Tests.{ltb-true}
 use lib.Seq.{drop-at, drop-drop}
@@ -15,17 +15,15 @@ use Rattle.format.specs.Home.{Home}
 use Rattle.format.specs.Count.{Settled, settled}
 use Rattle.format.specs.Accept.{readSpans}
 use Rattle.format.specs.Lent.{cells, unmarked}
-use Rattle.format.specs.Opening.{opens}
 use Rattle.format.specs.Span.{runsToIndex, spanLength, afterOpening, beforeOpening, laterSpans, joined, none}
-use Rattle.format.proofs.Judged.{and-both, and-make}
-use Rattle.format.proofs.Lists.{drop-take}
+use Rattle.format.proofs.Judged.{and-both}
 use Rattle.format.proofs.Shape.{Shape, cleanSpan, cleanSpans}
 use Rattle.format.proofs.Opening.{length-opens}
-use Rattle.format.proofs.Cutting.{before-joined, shape-later, later-joined, opens-joined}
+use Rattle.format.proofs.Cutting.{before-joined, shape-later, later-joined}
 use Rattle.format.proofs.SpanAgrees.{span-agrees}
 use Rattle.format.proofs.CandidateBytes.{after-front}
 use Rattle.search.proofs.Run.{span-le}
-use Rattle.search.proofs.Cells.{length-cells, drop-cells, take-cells}
+use Rattle.search.proofs.Cells.{length-cells, drop-cells}
 use Rattle.reader.specs.Accepting.{Rest, judgeSector}
 use Rattle.reader.proofs.AcceptBytes.{part-all}
 use Rattle.reader.proofs.AcceptAnswers.{spans-refused, spans-good}
@@ -47,7 +45,7 @@ empty [] e = refl
 empty (x ∷ xs) e = absurd (omega arith)
 
 -- A span without its opening.
-after-length : (o : ℕ) (c : List ℕ) → length (afterOpening o c) ≡ spanLength o c - o
+pub after-length : (o : ℕ) (c : List ℕ) → length (afterOpening o c) ≡ spanLength o c - o
 unfolding afterOpening
 after-length o c = omega (arith, length-drop o (take (spanLength o c) c), length-take (spanLength o c) c, span-le o c)
 

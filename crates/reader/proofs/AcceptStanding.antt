@@ -1,14 +1,14 @@
 -- The sector at a place by the bytes of the track.
-use mathlib.Core.Path.{_≡_, refl, sym, ap, _∙_}
+use mathlib.Core.Path.{_≡_}
 use Prim.Native.Nat.{ℕ, _+_, _-_, _≤_, _<_}
 use native.Mathlib.Omega.{arith}
 use mathlib.Core.Bool.{Bool, true, false}
 use mathlib.Core.List.{List, []}
-use lib.ListN.{length, take, drop}
+use lib.ListN.{take, drop}
 use Rattle.format.specs.Lent.{cells}
 use Rattle.format.specs.Span.{runsToIndex, spanLength, afterOpening}
 use Rattle.format.specs.Sector.{openingLength}
-use Rattle.reader.specs.Accepting.{Standing, sectorOf, sectorAt}
+use Rattle.reader.specs.Accepting.{sectorOf, sectorAt}
 use Rattle.reader.proofs.AcceptSpans.{after-bytes, after-none}
 
 -- The opening of a count has at least 6 bytes.

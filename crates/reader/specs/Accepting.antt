@@ -97,14 +97,14 @@ trackInWindow (Accepted h) = (23 ≤ h .place) × (h .place ≤ 37)
 trackInWindow (RefusedTrack a) = Unit {0}
 
 -- A sector that stands on a track: its record, where its data block ends, where the next sector starts, and is it the last?
-pub record Standing : Type 0 where
+pub record SectorHere : Type 0 where
   pub listed : Listed
   pub end : ℕ
   pub next : ℕ
   pub last : Bool
 
 -- The sector that a value of the code stands for.
-abbrev pub asSector : SectorCode → Standing
+abbrev pub asSector : SectorCode → SectorHere
 asSector s =
     record {
       listed = record {
@@ -125,7 +125,7 @@ unfoldable pub placeWithin : ℕ → ℕ
 placeWithin p = pick (ltb 4002 p) 4002 p
 
 -- The sector of which r follows the count's opening, from place q on.
-unfoldable pub sectorOf : ℕ → ℕ → Bool → List ℕ → Standing
+unfoldable pub sectorOf : ℕ → ℕ → Bool → List ℕ → SectorHere
 sectorOf q next last r =
     record {
       listed = record {
@@ -142,7 +142,7 @@ sectorOf q next last r =
     }
 
 -- The sector whose count opens at the front of c, at place p: sector 0 or a later one.
-unfoldable pub sectorAt : Bool → ℕ → List ℕ → Standing
+unfoldable pub sectorAt : Bool → ℕ → List ℕ → SectorHere
 sectorAt first p c =
     let o = openingLength first in
     sectorOf (p + o) (p + spanLength o c) (runsToIndex o c) (afterOpening o c)

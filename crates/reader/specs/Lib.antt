@@ -1,3 +1,4 @@
--- What the calls that read a track give, in the words of the track format.
+-- What reading a track gives, in the words of the track format.
 pub mod Accepting
 pub mod Finding
+pub mod Pairing

@@ -145,9 +145,9 @@ pub fn judge(track: &[u8], marks: &[u8]) -> Judged
     let home = judge_home(track, marks);
     match home {
         HomeJudged::Right(h) => {
-            let a = judge_behind(track, marks, h);
-            if a.number != 0 {
-                return Judged::Refused(a);
+            let behind = judge_behind(track, marks, h);
+            if behind.number != 0 {
+                return Judged::Refused(behind);
             }
             Judged::Accepted(h)
         }

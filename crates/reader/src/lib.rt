@@ -1,8 +1,9 @@
-// The calls that read a track: Accept, Find and Walk, over home, sectors and candidates.
+// The calls that read a lent track: Accept over home and sectors; Walk, Find and Pair find over candidates.
 pub mod accepting;
 pub mod candidate;
 pub mod finding;
 pub mod home;
+pub mod pair;
 pub mod sectors;
 pub mod walk;
 
@@ -11,7 +12,10 @@ pub use accepting::accept;
 pub use accepting::judge;
 pub use candidate::Candidate;
 pub use candidate::Standing;
+pub use candidate::first_opens_at;
 pub use candidate::next_candidate;
+pub use candidate::rest_of;
+pub use candidate::stands_at;
 pub use finding::Outcome;
 pub use finding::Part;
 pub use finding::Wanted;
@@ -19,8 +23,9 @@ pub use finding::find;
 pub use finding::find_part;
 pub use home::HomeJudged;
 pub use home::judge_home;
-pub use sectors::SectorAt;
-pub use sectors::sector_at;
+pub use pair::Paired;
+pub use pair::pair_find;
+pub use pair::pair_find_part;
 pub use walk::Visit;
 pub use walk::Visited;
 pub use walk::step_at;

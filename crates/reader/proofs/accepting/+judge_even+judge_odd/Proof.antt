@@ -1,6 +1,6 @@
 -- The cycle of calls of `judge_even` and `judge_odd` meets its contracts; what is left of the track gets shorter with each call.
-use mathlib.Core.Path.{_≡_, refl, sym, ap, _∙_}
-use Prim.Native.Nat.{_+_}
+use mathlib.Core.Path.{sym, ap, _∙_}
+use Prim.Native.Nat.{ℕ, _+_, _<_}
 use native.Mathlib.Omega.{arith}
 use borrow.Author.Needs.{needs}
 use lib.ListN.{length, length-drop}
@@ -9,7 +9,6 @@ use Rattle.sector.specs.As.{asAddress, asHome}
 use Rattle.reader.proofs.AcceptBytes.{part-all}
 use Rattle.reader.proofs.AcceptAnswers.{answers-two}
 use Rattle.reader.proofs.AcceptSpans.{front, rest-none, rest-next, front-refused, front-good}
-use Prim.Native.Nat.{ℕ, _<_}
 use borrow.Fn.Kinds.{In}
 use borrow.Fn.PlainCycle.{Measures, is, falls, and}
 use Rattle.reader.proofs.accepting.judge_even.Reads as judge-even
@@ -24,6 +23,7 @@ use Rattle.search.proofs.span_at.Reads as span-at-reads
 use Rattle.reader.proofs.accepting.+judge_even+judge_odd.{statement}
 use Rattle.reader.proofs.accepting.+judge_even+judge_odd.Tie.{close}
 
+-- What falls with each call: the length of what is left.
 abbrev μ-judge-even : Measures 2 judge-even-kinds.ps ℕ
 μ-judge-even κs a = length (a .0 .now)
 
@@ -45,550 +45,219 @@ abbrev judge-odd-below : ℕ → In 2 judge-odd-kinds.ps
 judge-odd-below t =
     and 2 judge-odd-kinds.ps (falls 2 judge-odd-kinds.ps _<_ μ-judge-odd t) judge-odd.Pre
 
--- src/accept.rt:57:9
-judge-even-done-requires : (t : ℕ) → judge-even-lts.Need-done-requires (
-  done-reads.Asked,
-  done-reads.Learnt,
-  span-at-reads.Asked,
-  span-at-reads.Learnt,
-  judge-sector-reads.Asked,
-  judge-sector-reads.Learnt,
-  judge-odd-below t,
-  judge-odd.Post,
-) (judge-even-at t) judge-even.Post
+-- What the calls of each ask and give.
+abbrev judge-even-calls : ℕ → judge-even-lts.Claims
+judge-even-calls t =
+    (done-reads.Asked, done-reads.Learnt, span-at-reads.Asked, span-at-reads.Learnt, judge-sector-reads.Asked, judge-sector-reads.Learnt, judge-odd-below t, judge-odd.Post)
+
+abbrev judge-odd-calls : ℕ → judge-odd-lts.Claims
+judge-odd-calls t =
+    (done-reads.Asked, done-reads.Learnt, span-at-reads.Asked, span-at-reads.Learnt, judge-sector-reads.Asked, judge-sector-reads.Learnt, judge-even-below t, judge-even.Post)
+
+judge-even-done-requires : (t : ℕ) → judge-even-lts.Need-done-requires (judge-even-calls t) (judge-even-at t) judge-even.Post
 judge-even-done-requires t c κs = search needs
 
--- src/accept.rt:57:9
-judge-even-returns : (t : ℕ) → judge-even-lts.Need-returns (
-  done-reads.Asked,
-  done-reads.Learnt,
-  span-at-reads.Asked,
-  span-at-reads.Learnt,
-  judge-sector-reads.Asked,
-  judge-sector-reads.Learnt,
-  judge-odd-below t,
-  judge-odd.Post,
-) (judge-even-at t) judge-even.Post
+judge-even-returns : (t : ℕ) → judge-even-lts.Need-returns (judge-even-calls t) (judge-even-at t) judge-even.Post
 judge-even-returns t c =
     let a = c .before .before .before .before .args in
     c .done .ensures ∙ sym (rest-none (asHome (a .h)) 2 (settled (asAddress (a .named))) (a .p) (a .track .now) (a .marks .now) (c .before .if1 .taken))
 
--- src/accept.rt:59:9
-judge-even-span-at-requires : (t : ℕ) → judge-even-lts.Need-span-at-requires (
-  done-reads.Asked,
-  done-reads.Learnt,
-  span-at-reads.Asked,
-  span-at-reads.Learnt,
-  judge-sector-reads.Asked,
-  judge-sector-reads.Learnt,
-  judge-odd-below t,
-  judge-odd.Post,
-) (judge-even-at t) judge-even.Post
+judge-even-span-at-requires : (t : ℕ) → judge-even-lts.Need-span-at-requires (judge-even-calls t) (judge-even-at t) judge-even.Post
 judge-even-span-at-requires t c κs = search needs
 
--- src/accept.rt:61:69
-judge-even-sub-judge-sector : (t : ℕ) → judge-even-lts.Need-sub-judge-sector (
-  done-reads.Asked,
-  done-reads.Learnt,
-  span-at-reads.Asked,
-  span-at-reads.Learnt,
-  judge-sector-reads.Asked,
-  judge-sector-reads.Learnt,
-  judge-odd-below t,
-  judge-odd.Post,
-) (judge-even-at t) judge-even.Post
+judge-even-sub-judge-sector : (t : ℕ) → judge-even-lts.Need-sub-judge-sector (judge-even-calls t) (judge-even-at t) judge-even.Post
 judge-even-sub-judge-sector t c =
     let a = c .before .before .before .before .args in
     let s = c .span-at in
     let f = front (a .p) (a .track .now) (a .marks .now) (s .result .length) (c .before .before .before .before .pre .1) (s .ensures .0) (omega (arith, c .before .if1 .left)) in
     omega arith
 
--- src/accept.rt:61:69
-judge-even-part-judge-sector-start : (t : ℕ) → judge-even-lts.Need-part-judge-sector-start (
-  done-reads.Asked,
-  done-reads.Learnt,
-  span-at-reads.Asked,
-  span-at-reads.Learnt,
-  judge-sector-reads.Asked,
-  judge-sector-reads.Learnt,
-  judge-odd-below t,
-  judge-odd.Post,
-) (judge-even-at t) judge-even.Post
+judge-even-part-judge-sector-start : (t : ℕ) → judge-even-lts.Need-part-judge-sector-start (judge-even-calls t) (judge-even-at t) judge-even.Post
 judge-even-part-judge-sector-start t c =
     let a = c .before .before .before .before .args in
     let s = c .span-at in
     let f = front (a .p) (a .track .now) (a .marks .now) (s .result .length) (c .before .before .before .before .pre .1) (s .ensures .0) (omega (arith, c .before .if1 .left)) in
     omega arith
 
--- src/accept.rt:61:69
-judge-even-part-judge-sector-end : (t : ℕ) → judge-even-lts.Need-part-judge-sector-end (
-  done-reads.Asked,
-  done-reads.Learnt,
-  span-at-reads.Asked,
-  span-at-reads.Learnt,
-  judge-sector-reads.Asked,
-  judge-sector-reads.Learnt,
-  judge-odd-below t,
-  judge-odd.Post,
-) (judge-even-at t) judge-even.Post
+judge-even-part-judge-sector-end : (t : ℕ) → judge-even-lts.Need-part-judge-sector-end (judge-even-calls t) (judge-even-at t) judge-even.Post
 judge-even-part-judge-sector-end t c =
     let a = c .before .before .before .before .args in
     let s = c .span-at in
     let f = front (a .p) (a .track .now) (a .marks .now) (s .result .length) (c .before .before .before .before .pre .1) (s .ensures .0) (omega (arith, c .before .if1 .left)) in
     omega arith
 
--- src/accept.rt:61:9
-judge-even-judge-sector-requires : (t : ℕ) → judge-even-lts.Need-judge-sector-requires (
-  done-reads.Asked,
-  done-reads.Learnt,
-  span-at-reads.Asked,
-  span-at-reads.Learnt,
-  judge-sector-reads.Asked,
-  judge-sector-reads.Learnt,
-  judge-odd-below t,
-  judge-odd.Post,
-) (judge-even-at t) judge-even.Post
+judge-even-judge-sector-requires : (t : ℕ) → judge-even-lts.Need-judge-sector-requires (judge-even-calls t) (judge-even-at t) judge-even.Post
 judge-even-judge-sector-requires t c κs = omega (arith, c .before .before .before .before .before .pre .1 .within)
 
--- src/accept.rt:63:9
-judge-even-returns-2 : (t : ℕ) → judge-even-lts.Need-returns-2 (
-  done-reads.Asked,
-  done-reads.Learnt,
-  span-at-reads.Asked,
-  span-at-reads.Learnt,
-  judge-sector-reads.Asked,
-  judge-sector-reads.Learnt,
-  judge-odd-below t,
-  judge-odd.Post,
-) (judge-even-at t) judge-even.Post
+judge-even-returns-2 : (t : ℕ) → judge-even-lts.Need-returns-2 (judge-even-calls t) (judge-even-at t) judge-even.Post
 judge-even-returns-2 t c =
     let a = c .before .before .before .before .before .before .before .before .args in
     let s = c .before .before .before .before .span-at in
     let f = front (a .p) (a .track .now) (a .marks .now) (s .result .length) (c .before .before .before .before .before .before .before .before .pre .1) (s .ensures .0) (omega (arith, c .before .before .before .before .before .if1 .left)) in
     front-refused (asHome (a .h)) 1 (asAddress (a .named)) (a .p) (s .result .length) (a .track .now) (a .marks .now) f (s .result .last) (s .ensures .1 .0) _ (c .before .before .judge-sector .ensures) (c .if2 .taken)
 
--- src/accept.rt:65:15
-judge-even-sub-judge-odd : (t : ℕ) → judge-even-lts.Need-sub-judge-odd (
-  done-reads.Asked,
-  done-reads.Learnt,
-  span-at-reads.Asked,
-  span-at-reads.Learnt,
-  judge-sector-reads.Asked,
-  judge-sector-reads.Learnt,
-  judge-odd-below t,
-  judge-odd.Post,
-) (judge-even-at t) judge-even.Post
+judge-even-sub-judge-odd : (t : ℕ) → judge-even-lts.Need-sub-judge-odd (judge-even-calls t) (judge-even-at t) judge-even.Post
 judge-even-sub-judge-odd t c =
     let a = c .before .before .before .before .before .before .before .before .args in
     let s = c .before .before .before .before .span-at in
     let f = front (a .p) (a .track .now) (a .marks .now) (s .result .length) (c .before .before .before .before .before .before .before .before .pre .1) (s .ensures .0) (omega (arith, c .before .before .before .before .before .if1 .left)) in
     omega arith
 
--- src/accept.rt:65:15
-judge-even-part-judge-odd-start : (t : ℕ) → judge-even-lts.Need-part-judge-odd-start (
-  done-reads.Asked,
-  done-reads.Learnt,
-  span-at-reads.Asked,
-  span-at-reads.Learnt,
-  judge-sector-reads.Asked,
-  judge-sector-reads.Learnt,
-  judge-odd-below t,
-  judge-odd.Post,
-) (judge-even-at t) judge-even.Post
+judge-even-part-judge-odd-start : (t : ℕ) → judge-even-lts.Need-part-judge-odd-start (judge-even-calls t) (judge-even-at t) judge-even.Post
 judge-even-part-judge-odd-start t c =
     let a = c .before .before .before .before .before .before .before .before .args in
     let s = c .before .before .before .before .span-at in
     let f = front (a .p) (a .track .now) (a .marks .now) (s .result .length) (c .before .before .before .before .before .before .before .before .pre .1) (s .ensures .0) (omega (arith, c .before .before .before .before .before .if1 .left)) in
     omega arith
 
--- src/accept.rt:65:15
-judge-even-part-judge-odd-end : (t : ℕ) → judge-even-lts.Need-part-judge-odd-end (
-  done-reads.Asked,
-  done-reads.Learnt,
-  span-at-reads.Asked,
-  span-at-reads.Learnt,
-  judge-sector-reads.Asked,
-  judge-sector-reads.Learnt,
-  judge-odd-below t,
-  judge-odd.Post,
-) (judge-even-at t) judge-even.Post
+judge-even-part-judge-odd-end : (t : ℕ) → judge-even-lts.Need-part-judge-odd-end (judge-even-calls t) (judge-even-at t) judge-even.Post
 judge-even-part-judge-odd-end t c =
     let a = c .before .before .before .before .before .before .before .before .args in
     let s = c .before .before .before .before .span-at in
     let f = front (a .p) (a .track .now) (a .marks .now) (s .result .length) (c .before .before .before .before .before .before .before .before .pre .1) (s .ensures .0) (omega (arith, c .before .before .before .before .before .if1 .left)) in
     omega arith
 
--- src/accept.rt:65:28
-judge-even-sub-judge-odd-2 : (t : ℕ) → judge-even-lts.Need-sub-judge-odd-2 (
-  done-reads.Asked,
-  done-reads.Learnt,
-  span-at-reads.Asked,
-  span-at-reads.Learnt,
-  judge-sector-reads.Asked,
-  judge-sector-reads.Learnt,
-  judge-odd-below t,
-  judge-odd.Post,
-) (judge-even-at t) judge-even.Post
+judge-even-sub-judge-odd-2 : (t : ℕ) → judge-even-lts.Need-sub-judge-odd-2 (judge-even-calls t) (judge-even-at t) judge-even.Post
 judge-even-sub-judge-odd-2 t c =
     let a = c .before .before .before .before .before .before .before .before .before .args in
     let s = c .before .before .before .before .before .span-at in
     let f = front (a .p) (a .track .now) (a .marks .now) (s .result .length) (c .before .before .before .before .before .before .before .before .before .pre .1) (s .ensures .0) (omega (arith, c .before .before .before .before .before .before .if1 .left)) in
     omega (arith, c .before .before .before .before .before .before .before .before .before .pre .1 .lengths)
 
--- src/accept.rt:65:28
-judge-even-part-judge-odd-start-2 : (t : ℕ) → judge-even-lts.Need-part-judge-odd-start-2 (
-  done-reads.Asked,
-  done-reads.Learnt,
-  span-at-reads.Asked,
-  span-at-reads.Learnt,
-  judge-sector-reads.Asked,
-  judge-sector-reads.Learnt,
-  judge-odd-below t,
-  judge-odd.Post,
-) (judge-even-at t) judge-even.Post
+judge-even-part-judge-odd-start-2 : (t : ℕ) → judge-even-lts.Need-part-judge-odd-start-2 (judge-even-calls t) (judge-even-at t) judge-even.Post
 judge-even-part-judge-odd-start-2 t c =
     let a = c .before .before .before .before .before .before .before .before .before .args in
     let s = c .before .before .before .before .before .span-at in
     let f = front (a .p) (a .track .now) (a .marks .now) (s .result .length) (c .before .before .before .before .before .before .before .before .before .pre .1) (s .ensures .0) (omega (arith, c .before .before .before .before .before .before .if1 .left)) in
     omega (arith, c .before .before .before .before .before .before .before .before .before .pre .1 .lengths)
 
--- src/accept.rt:65:28
-judge-even-part-judge-odd-end-2 : (t : ℕ) → judge-even-lts.Need-part-judge-odd-end-2 (
-  done-reads.Asked,
-  done-reads.Learnt,
-  span-at-reads.Asked,
-  span-at-reads.Learnt,
-  judge-sector-reads.Asked,
-  judge-sector-reads.Learnt,
-  judge-odd-below t,
-  judge-odd.Post,
-) (judge-even-at t) judge-even.Post
+judge-even-part-judge-odd-end-2 : (t : ℕ) → judge-even-lts.Need-part-judge-odd-end-2 (judge-even-calls t) (judge-even-at t) judge-even.Post
 judge-even-part-judge-odd-end-2 t c =
     let a = c .before .before .before .before .before .before .before .before .before .args in
     let s = c .before .before .before .before .before .span-at in
     let f = front (a .p) (a .track .now) (a .marks .now) (s .result .length) (c .before .before .before .before .before .before .before .before .before .pre .1) (s .ensures .0) (omega (arith, c .before .before .before .before .before .before .if1 .left)) in
     omega (arith, c .before .before .before .before .before .before .before .before .before .pre .1 .lengths)
 
--- src/accept.rt:65:41
-judge-even-add-judge-odd : (t : ℕ) → judge-even-lts.Need-add-judge-odd (
-  done-reads.Asked,
-  done-reads.Learnt,
-  span-at-reads.Asked,
-  span-at-reads.Learnt,
-  judge-sector-reads.Asked,
-  judge-sector-reads.Learnt,
-  judge-odd-below t,
-  judge-odd.Post,
-) (judge-even-at t) judge-even.Post
+judge-even-add-judge-odd : (t : ℕ) → judge-even-lts.Need-add-judge-odd (judge-even-calls t) (judge-even-at t) judge-even.Post
 judge-even-add-judge-odd t c =
     let a = c .before .before .before .before .before .before .before .before .before .before .args in
     let s = c .before .before .before .before .before .before .span-at in
     let f = front (a .p) (a .track .now) (a .marks .now) (s .result .length) (c .before .before .before .before .before .before .before .before .before .before .pre .1) (s .ensures .0) (omega (arith, c .before .before .before .before .before .before .before .if1 .left)) in
     omega (arith, c .before .before .before .before .before .before .before .before .before .before .pre .1 .within)
 
--- src/accept.rt:65:5
-judge-even-judge-odd-requires : (t : ℕ) → judge-even-lts.Need-judge-odd-requires (
-  done-reads.Asked,
-  done-reads.Learnt,
-  span-at-reads.Asked,
-  span-at-reads.Learnt,
-  judge-sector-reads.Asked,
-  judge-sector-reads.Learnt,
-  judge-odd-below t,
-  judge-odd.Post,
-) (judge-even-at t) judge-even.Post
+judge-even-judge-odd-requires : (t : ℕ) → judge-even-lts.Need-judge-odd-requires (judge-even-calls t) (judge-even-at t) judge-even.Post
 judge-even-judge-odd-requires t c κs =
     let a = c .before .before .before .before .before .before .before .before .before .before .args in
     let s = c .before .before .before .before .before .before .span-at in
     let f = front (a .p) (a .track .now) (a .marks .now) (s .result .length) (c .before .before .before .before .before .before .before .before .before .before .pre .1) (s .ensures .0) (omega (arith, c .before .before .before .before .before .before .before .if1 .left)) in
     (omega (arith, length-drop (s .result .length) (a .track .now), ap length (part-all (s .result .length) (a .track .now))), rest-next (a .p) (s .result .length) (a .track .now) (a .marks .now) f)
 
--- src/accept.rt:52:1
-judge-even-returns-3 : (t : ℕ) → judge-even-lts.Need-returns-3 (
-  done-reads.Asked,
-  done-reads.Learnt,
-  span-at-reads.Asked,
-  span-at-reads.Learnt,
-  judge-sector-reads.Asked,
-  judge-sector-reads.Learnt,
-  judge-odd-below t,
-  judge-odd.Post,
-) (judge-even-at t) judge-even.Post
+judge-even-returns-3 : (t : ℕ) → judge-even-lts.Need-returns-3 (judge-even-calls t) (judge-even-at t) judge-even.Post
 judge-even-returns-3 t c =
     let a = c .before .before .before .before .before .before .before .before .before .before .before .args in
     let s = c .before .before .before .before .before .before .before .span-at in
     let f = front (a .p) (a .track .now) (a .marks .now) (s .result .length) (c .before .before .before .before .before .before .before .before .before .before .before .pre .1) (s .ensures .0) (omega (arith, c .before .before .before .before .before .before .before .before .if1 .left)) in
     c .judge-odd .ensures ∙ answers-two (asHome (a .h)) 0 (settled (asAddress (a .named))) (a .p + s .result .length) _ ∙ front-good (asHome (a .h)) 1 (asAddress (a .named)) (a .p) (s .result .length) (a .track .now) (a .marks .now) f (s .result .last) (s .ensures .1 .0) _ (c .before .before .before .before .before .judge-sector .ensures) (c .before .before .before .if2 .left)
 
--- src/accept.rt:40:9
-judge-odd-done-requires : (t : ℕ) → judge-odd-lts.Need-done-requires (
-  done-reads.Asked,
-  done-reads.Learnt,
-  span-at-reads.Asked,
-  span-at-reads.Learnt,
-  judge-sector-reads.Asked,
-  judge-sector-reads.Learnt,
-  judge-even-below t,
-  judge-even.Post,
-) (judge-odd-at t) judge-odd.Post
+judge-odd-done-requires : (t : ℕ) → judge-odd-lts.Need-done-requires (judge-odd-calls t) (judge-odd-at t) judge-odd.Post
 judge-odd-done-requires t c κs = search needs
 
--- src/accept.rt:40:9
-judge-odd-returns : (t : ℕ) → judge-odd-lts.Need-returns (
-  done-reads.Asked,
-  done-reads.Learnt,
-  span-at-reads.Asked,
-  span-at-reads.Learnt,
-  judge-sector-reads.Asked,
-  judge-sector-reads.Learnt,
-  judge-even-below t,
-  judge-even.Post,
-) (judge-odd-at t) judge-odd.Post
+judge-odd-returns : (t : ℕ) → judge-odd-lts.Need-returns (judge-odd-calls t) (judge-odd-at t) judge-odd.Post
 judge-odd-returns t c =
     let a = c .before .before .before .before .args in
     c .done .ensures ∙ sym (rest-none (asHome (a .h)) 1 (settled (asAddress (a .named))) (a .p) (a .track .now) (a .marks .now) (c .before .if1 .taken))
 
--- src/accept.rt:42:9
-judge-odd-span-at-requires : (t : ℕ) → judge-odd-lts.Need-span-at-requires (
-  done-reads.Asked,
-  done-reads.Learnt,
-  span-at-reads.Asked,
-  span-at-reads.Learnt,
-  judge-sector-reads.Asked,
-  judge-sector-reads.Learnt,
-  judge-even-below t,
-  judge-even.Post,
-) (judge-odd-at t) judge-odd.Post
+judge-odd-span-at-requires : (t : ℕ) → judge-odd-lts.Need-span-at-requires (judge-odd-calls t) (judge-odd-at t) judge-odd.Post
 judge-odd-span-at-requires t c κs = search needs
 
--- src/accept.rt:44:69
-judge-odd-sub-judge-sector : (t : ℕ) → judge-odd-lts.Need-sub-judge-sector (
-  done-reads.Asked,
-  done-reads.Learnt,
-  span-at-reads.Asked,
-  span-at-reads.Learnt,
-  judge-sector-reads.Asked,
-  judge-sector-reads.Learnt,
-  judge-even-below t,
-  judge-even.Post,
-) (judge-odd-at t) judge-odd.Post
+judge-odd-sub-judge-sector : (t : ℕ) → judge-odd-lts.Need-sub-judge-sector (judge-odd-calls t) (judge-odd-at t) judge-odd.Post
 judge-odd-sub-judge-sector t c =
     let a = c .before .before .before .before .args in
     let s = c .span-at in
     let f = front (a .p) (a .track .now) (a .marks .now) (s .result .length) (c .before .before .before .before .pre .1) (s .ensures .0) (omega (arith, c .before .if1 .left)) in
     omega arith
 
--- src/accept.rt:44:69
-judge-odd-part-judge-sector-start : (t : ℕ) → judge-odd-lts.Need-part-judge-sector-start (
-  done-reads.Asked,
-  done-reads.Learnt,
-  span-at-reads.Asked,
-  span-at-reads.Learnt,
-  judge-sector-reads.Asked,
-  judge-sector-reads.Learnt,
-  judge-even-below t,
-  judge-even.Post,
-) (judge-odd-at t) judge-odd.Post
+judge-odd-part-judge-sector-start : (t : ℕ) → judge-odd-lts.Need-part-judge-sector-start (judge-odd-calls t) (judge-odd-at t) judge-odd.Post
 judge-odd-part-judge-sector-start t c =
     let a = c .before .before .before .before .args in
     let s = c .span-at in
     let f = front (a .p) (a .track .now) (a .marks .now) (s .result .length) (c .before .before .before .before .pre .1) (s .ensures .0) (omega (arith, c .before .if1 .left)) in
     omega arith
 
--- src/accept.rt:44:69
-judge-odd-part-judge-sector-end : (t : ℕ) → judge-odd-lts.Need-part-judge-sector-end (
-  done-reads.Asked,
-  done-reads.Learnt,
-  span-at-reads.Asked,
-  span-at-reads.Learnt,
-  judge-sector-reads.Asked,
-  judge-sector-reads.Learnt,
-  judge-even-below t,
-  judge-even.Post,
-) (judge-odd-at t) judge-odd.Post
+judge-odd-part-judge-sector-end : (t : ℕ) → judge-odd-lts.Need-part-judge-sector-end (judge-odd-calls t) (judge-odd-at t) judge-odd.Post
 judge-odd-part-judge-sector-end t c =
     let a = c .before .before .before .before .args in
     let s = c .span-at in
     let f = front (a .p) (a .track .now) (a .marks .now) (s .result .length) (c .before .before .before .before .pre .1) (s .ensures .0) (omega (arith, c .before .if1 .left)) in
     omega arith
 
--- src/accept.rt:44:9
-judge-odd-judge-sector-requires : (t : ℕ) → judge-odd-lts.Need-judge-sector-requires (
-  done-reads.Asked,
-  done-reads.Learnt,
-  span-at-reads.Asked,
-  span-at-reads.Learnt,
-  judge-sector-reads.Asked,
-  judge-sector-reads.Learnt,
-  judge-even-below t,
-  judge-even.Post,
-) (judge-odd-at t) judge-odd.Post
+judge-odd-judge-sector-requires : (t : ℕ) → judge-odd-lts.Need-judge-sector-requires (judge-odd-calls t) (judge-odd-at t) judge-odd.Post
 judge-odd-judge-sector-requires t c κs = omega (arith, c .before .before .before .before .before .pre .1 .within)
 
--- src/accept.rt:46:9
-judge-odd-returns-2 : (t : ℕ) → judge-odd-lts.Need-returns-2 (
-  done-reads.Asked,
-  done-reads.Learnt,
-  span-at-reads.Asked,
-  span-at-reads.Learnt,
-  judge-sector-reads.Asked,
-  judge-sector-reads.Learnt,
-  judge-even-below t,
-  judge-even.Post,
-) (judge-odd-at t) judge-odd.Post
+judge-odd-returns-2 : (t : ℕ) → judge-odd-lts.Need-returns-2 (judge-odd-calls t) (judge-odd-at t) judge-odd.Post
 judge-odd-returns-2 t c =
     let a = c .before .before .before .before .before .before .before .before .args in
     let s = c .before .before .before .before .span-at in
     let f = front (a .p) (a .track .now) (a .marks .now) (s .result .length) (c .before .before .before .before .before .before .before .before .pre .1) (s .ensures .0) (omega (arith, c .before .before .before .before .before .if1 .left)) in
     front-refused (asHome (a .h)) 0 (asAddress (a .named)) (a .p) (s .result .length) (a .track .now) (a .marks .now) f (s .result .last) (s .ensures .1 .0) _ (c .before .before .judge-sector .ensures) (c .if2 .taken)
 
--- src/accept.rt:48:16
-judge-odd-sub-judge-even : (t : ℕ) → judge-odd-lts.Need-sub-judge-even (
-  done-reads.Asked,
-  done-reads.Learnt,
-  span-at-reads.Asked,
-  span-at-reads.Learnt,
-  judge-sector-reads.Asked,
-  judge-sector-reads.Learnt,
-  judge-even-below t,
-  judge-even.Post,
-) (judge-odd-at t) judge-odd.Post
+judge-odd-sub-judge-even : (t : ℕ) → judge-odd-lts.Need-sub-judge-even (judge-odd-calls t) (judge-odd-at t) judge-odd.Post
 judge-odd-sub-judge-even t c =
     let a = c .before .before .before .before .before .before .before .before .args in
     let s = c .before .before .before .before .span-at in
     let f = front (a .p) (a .track .now) (a .marks .now) (s .result .length) (c .before .before .before .before .before .before .before .before .pre .1) (s .ensures .0) (omega (arith, c .before .before .before .before .before .if1 .left)) in
     omega arith
 
--- src/accept.rt:48:16
-judge-odd-part-judge-even-start : (t : ℕ) → judge-odd-lts.Need-part-judge-even-start (
-  done-reads.Asked,
-  done-reads.Learnt,
-  span-at-reads.Asked,
-  span-at-reads.Learnt,
-  judge-sector-reads.Asked,
-  judge-sector-reads.Learnt,
-  judge-even-below t,
-  judge-even.Post,
-) (judge-odd-at t) judge-odd.Post
+judge-odd-part-judge-even-start : (t : ℕ) → judge-odd-lts.Need-part-judge-even-start (judge-odd-calls t) (judge-odd-at t) judge-odd.Post
 judge-odd-part-judge-even-start t c =
     let a = c .before .before .before .before .before .before .before .before .args in
     let s = c .before .before .before .before .span-at in
     let f = front (a .p) (a .track .now) (a .marks .now) (s .result .length) (c .before .before .before .before .before .before .before .before .pre .1) (s .ensures .0) (omega (arith, c .before .before .before .before .before .if1 .left)) in
     omega arith
 
--- src/accept.rt:48:16
-judge-odd-part-judge-even-end : (t : ℕ) → judge-odd-lts.Need-part-judge-even-end (
-  done-reads.Asked,
-  done-reads.Learnt,
-  span-at-reads.Asked,
-  span-at-reads.Learnt,
-  judge-sector-reads.Asked,
-  judge-sector-reads.Learnt,
-  judge-even-below t,
-  judge-even.Post,
-) (judge-odd-at t) judge-odd.Post
+judge-odd-part-judge-even-end : (t : ℕ) → judge-odd-lts.Need-part-judge-even-end (judge-odd-calls t) (judge-odd-at t) judge-odd.Post
 judge-odd-part-judge-even-end t c =
     let a = c .before .before .before .before .before .before .before .before .args in
     let s = c .before .before .before .before .span-at in
     let f = front (a .p) (a .track .now) (a .marks .now) (s .result .length) (c .before .before .before .before .before .before .before .before .pre .1) (s .ensures .0) (omega (arith, c .before .before .before .before .before .if1 .left)) in
     omega arith
 
--- src/accept.rt:48:29
-judge-odd-sub-judge-even-2 : (t : ℕ) → judge-odd-lts.Need-sub-judge-even-2 (
-  done-reads.Asked,
-  done-reads.Learnt,
-  span-at-reads.Asked,
-  span-at-reads.Learnt,
-  judge-sector-reads.Asked,
-  judge-sector-reads.Learnt,
-  judge-even-below t,
-  judge-even.Post,
-) (judge-odd-at t) judge-odd.Post
+judge-odd-sub-judge-even-2 : (t : ℕ) → judge-odd-lts.Need-sub-judge-even-2 (judge-odd-calls t) (judge-odd-at t) judge-odd.Post
 judge-odd-sub-judge-even-2 t c =
     let a = c .before .before .before .before .before .before .before .before .before .args in
     let s = c .before .before .before .before .before .span-at in
     let f = front (a .p) (a .track .now) (a .marks .now) (s .result .length) (c .before .before .before .before .before .before .before .before .before .pre .1) (s .ensures .0) (omega (arith, c .before .before .before .before .before .before .if1 .left)) in
     omega (arith, c .before .before .before .before .before .before .before .before .before .pre .1 .lengths)
 
--- src/accept.rt:48:29
-judge-odd-part-judge-even-start-2 : (t : ℕ) → judge-odd-lts.Need-part-judge-even-start-2 (
-  done-reads.Asked,
-  done-reads.Learnt,
-  span-at-reads.Asked,
-  span-at-reads.Learnt,
-  judge-sector-reads.Asked,
-  judge-sector-reads.Learnt,
-  judge-even-below t,
-  judge-even.Post,
-) (judge-odd-at t) judge-odd.Post
+judge-odd-part-judge-even-start-2 : (t : ℕ) → judge-odd-lts.Need-part-judge-even-start-2 (judge-odd-calls t) (judge-odd-at t) judge-odd.Post
 judge-odd-part-judge-even-start-2 t c =
     let a = c .before .before .before .before .before .before .before .before .before .args in
     let s = c .before .before .before .before .before .span-at in
     let f = front (a .p) (a .track .now) (a .marks .now) (s .result .length) (c .before .before .before .before .before .before .before .before .before .pre .1) (s .ensures .0) (omega (arith, c .before .before .before .before .before .before .if1 .left)) in
     omega (arith, c .before .before .before .before .before .before .before .before .before .pre .1 .lengths)
 
--- src/accept.rt:48:29
-judge-odd-part-judge-even-end-2 : (t : ℕ) → judge-odd-lts.Need-part-judge-even-end-2 (
-  done-reads.Asked,
-  done-reads.Learnt,
-  span-at-reads.Asked,
-  span-at-reads.Learnt,
-  judge-sector-reads.Asked,
-  judge-sector-reads.Learnt,
-  judge-even-below t,
-  judge-even.Post,
-) (judge-odd-at t) judge-odd.Post
+judge-odd-part-judge-even-end-2 : (t : ℕ) → judge-odd-lts.Need-part-judge-even-end-2 (judge-odd-calls t) (judge-odd-at t) judge-odd.Post
 judge-odd-part-judge-even-end-2 t c =
     let a = c .before .before .before .before .before .before .before .before .before .args in
     let s = c .before .before .before .before .before .span-at in
     let f = front (a .p) (a .track .now) (a .marks .now) (s .result .length) (c .before .before .before .before .before .before .before .before .before .pre .1) (s .ensures .0) (omega (arith, c .before .before .before .before .before .before .if1 .left)) in
     omega (arith, c .before .before .before .before .before .before .before .before .before .pre .1 .lengths)
 
--- src/accept.rt:48:42
-judge-odd-add-judge-even : (t : ℕ) → judge-odd-lts.Need-add-judge-even (
-  done-reads.Asked,
-  done-reads.Learnt,
-  span-at-reads.Asked,
-  span-at-reads.Learnt,
-  judge-sector-reads.Asked,
-  judge-sector-reads.Learnt,
-  judge-even-below t,
-  judge-even.Post,
-) (judge-odd-at t) judge-odd.Post
+judge-odd-add-judge-even : (t : ℕ) → judge-odd-lts.Need-add-judge-even (judge-odd-calls t) (judge-odd-at t) judge-odd.Post
 judge-odd-add-judge-even t c =
     let a = c .before .before .before .before .before .before .before .before .before .before .args in
     let s = c .before .before .before .before .before .before .span-at in
     let f = front (a .p) (a .track .now) (a .marks .now) (s .result .length) (c .before .before .before .before .before .before .before .before .before .before .pre .1) (s .ensures .0) (omega (arith, c .before .before .before .before .before .before .before .if1 .left)) in
     omega (arith, c .before .before .before .before .before .before .before .before .before .before .pre .1 .within)
 
--- src/accept.rt:48:5
-judge-odd-judge-even-requires : (t : ℕ) → judge-odd-lts.Need-judge-even-requires (
-  done-reads.Asked,
-  done-reads.Learnt,
-  span-at-reads.Asked,
-  span-at-reads.Learnt,
-  judge-sector-reads.Asked,
-  judge-sector-reads.Learnt,
-  judge-even-below t,
-  judge-even.Post,
-) (judge-odd-at t) judge-odd.Post
+judge-odd-judge-even-requires : (t : ℕ) → judge-odd-lts.Need-judge-even-requires (judge-odd-calls t) (judge-odd-at t) judge-odd.Post
 judge-odd-judge-even-requires t c κs =
     let a = c .before .before .before .before .before .before .before .before .before .before .args in
     let s = c .before .before .before .before .before .before .span-at in
     let f = front (a .p) (a .track .now) (a .marks .now) (s .result .length) (c .before .before .before .before .before .before .before .before .before .before .pre .1) (s .ensures .0) (omega (arith, c .before .before .before .before .before .before .before .if1 .left)) in
     (omega (arith, length-drop (s .result .length) (a .track .now), ap length (part-all (s .result .length) (a .track .now))), rest-next (a .p) (s .result .length) (a .track .now) (a .marks .now) f)
 
--- src/accept.rt:35:1
-judge-odd-returns-3 : (t : ℕ) → judge-odd-lts.Need-returns-3 (
-  done-reads.Asked,
-  done-reads.Learnt,
-  span-at-reads.Asked,
-  span-at-reads.Learnt,
-  judge-sector-reads.Asked,
-  judge-sector-reads.Learnt,
-  judge-even-below t,
-  judge-even.Post,
-) (judge-odd-at t) judge-odd.Post
+judge-odd-returns-3 : (t : ℕ) → judge-odd-lts.Need-returns-3 (judge-odd-calls t) (judge-odd-at t) judge-odd.Post
 judge-odd-returns-3 t c =
     let a = c .before .before .before .before .before .before .before .before .before .before .before .args in
     let s = c .before .before .before .before .before .before .before .span-at in
@@ -596,16 +265,7 @@ judge-odd-returns-3 t c =
     c .judge-even .ensures ∙ front-good (asHome (a .h)) 0 (asAddress (a .named)) (a .p) (s .result .length) (a .track .now) (a .marks .now) f (s .result .last) (s .ensures .1 .0) _ (c .before .before .before .before .before .judge-sector .ensures) (c .before .before .before .if2 .left)
 
 pub +judge-even+judge-odd-spec : {M : Type 1} → statement M
-+judge-even+judge-odd-spec = close μ-judge-even μ-judge-odd (λ t. judge-even-lts.spec (
-  done-reads.Asked,
-  done-reads.Learnt,
-  span-at-reads.Asked,
-  span-at-reads.Learnt,
-  judge-sector-reads.Asked,
-  judge-sector-reads.Learnt,
-  judge-odd-below t,
-  judge-odd.Post,
-)
++judge-even+judge-odd-spec = close μ-judge-even μ-judge-odd (λ t. judge-even-lts.spec (judge-even-calls t)
     (judge-even-at t)
     judge-even.Post
     (judge-even-done-requires t)
@@ -625,16 +285,7 @@ pub +judge-even+judge-odd-spec : {M : Type 1} → statement M
     (judge-even-add-judge-odd t)
     (judge-even-judge-odd-requires t)
     (judge-even-returns-3 t))
-    λ t. judge-odd-lts.spec (
-      done-reads.Asked,
-      done-reads.Learnt,
-      span-at-reads.Asked,
-      span-at-reads.Learnt,
-      judge-sector-reads.Asked,
-      judge-sector-reads.Learnt,
-      judge-even-below t,
-      judge-even.Post,
-    )
+    λ t. judge-odd-lts.spec (judge-odd-calls t)
     (judge-odd-at t)
     judge-odd.Post
     (judge-odd-done-requires t)

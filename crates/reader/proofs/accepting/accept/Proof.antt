@@ -1,38 +1,28 @@
 -- `accept` meets its contract: 0 for an accepted track, else the refusal's answer.
-use mathlib.Core.Path.{_≡_, _∙_}
+use mathlib.Core.Path.{_∙_}
 use Rattle.reader.proofs.AcceptBehind.{accept-answer}
 use borrow.Author.Needs.{needs}
 use Rattle.reader.proofs.accepting.accept.Statement.{statement}
 use Rattle.reader.proofs.accepting.accept.Tie as tie
-use Rattle.reader.proofs.accepting.accept.Reads as reads
-use Rattle.reader.proofs.accepting.accept.Lts as lts
-use Rattle.format.proofs.done.Reads as done-reads
-use Rattle.reader.proofs.accepting.judge.Reads as judge-reads
 
--- src/accept.rt:162:9
 judge-requires : tie.Need-judge-requires
 judge-requires c κs = search needs
 
--- src/accept.rt:164:32
 enum-told : tie.Need-enum-told
 enum-told c = search needs
 
--- src/accept.rt:164:32
 done-requires : tie.Need-done-requires
 done-requires c κs = search needs
 
--- src/accept.rt:165:25
 enum-known-judged : tie.Need-enum-known-judged
 enum-known-judged c = search needs
 
--- src/accept.rt:159:1
 returns : tie.Need-returns
 returns c =
     let a = c .before .before .before .before .before .before .args in
     let j = rw (c .before .enum-told .given .1) at (c .before .before .before .judge .ensures) in
     c .done .ensures ∙ accept-answer (a .track .now) (a .marks .now) _ (j .0)
 
--- src/accept.rt:159:1
 returns-2 : tie.Need-returns-2
 returns-2 c =
     let a = c .before .before .before .before .before .before .args in

@@ -1,5 +1,5 @@
 -- `judge` meets its contract: what is lent, home, and what is behind it, in turn.
-use mathlib.Core.Path.{_≡_, sym, ap, _∙_}
+use mathlib.Core.Path.{sym, ap, _∙_}
 use borrow.Author.Tests.{not-true, not-false}
 use Rattle.format.specs.Judged.{Judged, refused}
 use Rattle.format.specs.Home.{Home}
@@ -7,36 +7,24 @@ use Rattle.reader.proofs.AcceptBehind.{accept-lent, accept-home, accept
 use borrow.Author.Needs.{needs}
 use Rattle.reader.proofs.accepting.judge.Statement.{statement}
 use Rattle.reader.proofs.accepting.judge.Tie as tie
-use Rattle.reader.proofs.accepting.judge.Reads as reads
-use Rattle.reader.proofs.accepting.judge.Lts as lts
-use Rattle.format.proofs.lent_wrong.Reads as lent-wrong-reads
-use Rattle.reader.proofs.accepting.judge_behind.Reads as judge-behind-reads
-use Rattle.reader.proofs.home.judge_home.Reads as judge-home-reads
-use Rattle.search.proofs.lent_for_reading.Reads as lent-for-reading-reads
 
--- src/accept.rt:142:9
 lent-for-reading-requires : tie.Need-lent-for-reading-requires
 lent-for-reading-requires c κs = search needs
 
--- src/accept.rt:143:32
 lent-wrong-requires : tie.Need-lent-wrong-requires
 lent-wrong-requires c κs = search needs
 
--- src/accept.rt:143:9
 returns : tie.Need-returns
 returns c =
     let a = c .before .before .before .before .before .args in
     (ap {B = Judged Home} refused (c .lent-wrong .ensures) ∙ sym (accept-lent (a .track .now) (a .marks .now) (sym (c .before .before .lent-for-reading .ensures) ∙ not-true _ (c .before .if1 .taken))), tt)
 
--- src/accept.rt:145:9
 judge-home-requires : tie.Need-judge-home-requires
 judge-home-requires c κs = search needs
 
--- src/accept.rt:147:27
 enum-known-home : tie.Need-enum-known-home
 enum-known-home c = search needs
 
--- src/accept.rt:148:17
 judge-behind-requires : tie.Need-judge-behind-requires
 judge-behind-requires c κs =
     let a = c .before .before .before .before .before .before .before .before .args in
@@ -44,7 +32,6 @@ judge-behind-requires c κs =
     let e = sym (c .before .before .before .before .before .lent-for-reading .ensures) ∙ not-false _ (c .before .before .before .before .if1 .left) in
     (e, j .1 .1)
 
--- src/accept.rt:150:17
 returns-2 : tie.Need-returns-2
 returns-2 c =
     let a = c .before .before .before .before .before .before .before .before .before .before .before .args in
@@ -52,11 +39,9 @@ returns-2 c =
     let e = sym (c .before .before .before .before .before .before .before .before .lent-for-reading .ensures) ∙ not-false _ (c .before .before .before .before .before .before .before .if1 .left) in
     (sym (accept-refused (a .track .now) (a .marks .now) e _ (j .0) _ (c .before .before .judge-behind .ensures) (c .if2 .taken)), tt)
 
--- src/accept.rt:154:29
 enum-known-home-2 : tie.Need-enum-known-home-2
 enum-known-home-2 c = search needs
 
--- src/accept.rt:138:1
 returns-3 : tie.Need-returns-3
 returns-3 c =
     let a = c .before .before .before .before .before .before .before .before .before .before .before .args in
@@ -64,7 +49,6 @@ returns-3 c =
     let e = sym (c .before .before .before .before .before .before .before .before .lent-for-reading .ensures) ∙ not-false _ (c .before .before .before .before .before .before .before .if1 .left) in
     (sym (accept-good (a .track .now) (a .marks .now) e _ (j .0) _ (c .before .before .judge-behind .ensures) (c .if2 .left)), j .1)
 
--- src/accept.rt:138:1
 returns-4 : tie.Need-returns-4
 returns-4 c =
     let a = c .before .before .before .before .before .before .before .before .args in

@@ -1,71 +1,54 @@
 -- `judge_behind` meets its contract: marks, sectors and numbers in turn.
-use mathlib.Core.Path.{_≡_, sym, _∙_}
+use mathlib.Core.Path.{sym, _∙_}
 use Rattle.format.specs.Lent.{cells}
 use Rattle.sector.specs.As.{asHome}
 use Rattle.reader.proofs.AcceptBehind.{unstrayed, behind-stray, behind-refused, behind-opened, behind-numbers}
 use borrow.Author.Needs.{needs}
 use Rattle.reader.proofs.accepting.judge_behind.Statement.{statement}
 use Rattle.reader.proofs.accepting.judge_behind.Tie as tie
-use Rattle.reader.proofs.accepting.judge_behind.Reads as reads
-use Rattle.reader.proofs.accepting.judge_behind.Lts as lts
-use Rattle.format.proofs.mark_stray.Reads as mark-stray-reads
-use Rattle.reader.proofs.accepting.judge_numbers.Reads as judge-numbers-reads
-use Rattle.reader.proofs.accepting.judge_sectors.Reads as judge-sectors-reads
-use Rattle.search.proofs.judge_marks.Reads as judge-marks-reads
 
--- src/accept.rt:117:13
 add-p : tie.Need-add-p
 add-p c = search needs
 
--- src/accept.rt:118:53
 add-judge-marks : tie.Need-add-judge-marks
 add-judge-marks c = search needs
 
--- src/accept.rt:118:9
 judge-marks-requires : tie.Need-judge-marks-requires
 judge-marks-requires c κs = search needs
 
--- src/accept.rt:121:17
 enum-told : tie.Need-enum-told
 enum-told c = search needs
 
--- src/accept.rt:121:17
 judge-sectors-requires : tie.Need-judge-sectors-requires
 judge-sectors-requires c κs =
     let a = c .before .before .before .before .before .before .args in
     let j = rw (c .enum-told .given .1) at (c .before .before .judge-marks .ensures) in
     unstrayed (a .h .place) (a .track .now) (a .marks .now) (c .before .before .before .before .before .before .pre .1) (c .before .before .before .before .before .before .pre .0) (sym j)
 
--- src/accept.rt:123:17
 returns : tie.Need-returns
 returns c =
     let a = c .before .before .before .before .before .before .before .before .before .args in
     let j = rw (c .before .before .before .enum-told .given .1) at (c .before .before .before .before .before .judge-marks .ensures) in
     behind-refused (asHome (a .h)) (cells (a .track .now) (a .marks .now)) j _ (c .before .before .judge-sectors .ensures) (c .if1 .taken)
 
--- src/accept.rt:125:13
 judge-numbers-requires : tie.Need-judge-numbers-requires
 judge-numbers-requires c κs =
     let a = c .before .before .before .before .before .before .before .before .before .args in
     let j = rw (c .before .before .before .enum-told .given .1) at (c .before .before .before .before .before .judge-marks .ensures) in
     (unstrayed (a .h .place) (a .track .now) (a .marks .now) (c .before .before .before .before .before .before .before .before .before .pre .1) (c .before .before .before .before .before .before .before .before .before .pre .0) (sym j), behind-opened (asHome (a .h)) (cells (a .track .now) (a .marks .now)) j _ (c .before .before .judge-sectors .ensures) (c .if1 .left))
 
--- src/accept.rt:127:29
 enum-known-strayed : tie.Need-enum-known-strayed
 enum-known-strayed c = search needs
 
--- src/accept.rt:127:35
 mark-stray-requires : tie.Need-mark-stray-requires
 mark-stray-requires c κs = search needs
 
--- src/accept.rt:112:1
 returns-2 : tie.Need-returns-2
 returns-2 c =
     let a = c .before .before .before .before .before .before .before .before .before .before .args in
     let j = rw (c .before .before .before .before .enum-told .given .1) at (c .before .before .before .before .before .before .judge-marks .ensures) in
     c .judge-numbers .ensures ∙ behind-numbers (asHome (a .h)) (cells (a .track .now) (a .marks .now)) j _ (c .before .before .before .judge-sectors .ensures) (c .before .if1 .left)
 
--- src/accept.rt:112:1
 returns-3 : tie.Need-returns-3
 returns-3 c =
     let a = c .before .before .before .before .before .before .before .before .args in

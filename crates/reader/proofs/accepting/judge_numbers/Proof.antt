@@ -11,11 +11,6 @@ use Rattle.reader.specs.Accepting.{Rest, asSector}
 use Rattle.reader.proofs.AcceptNumbers.{flagged, flagged-none, passed, passed-rest, passed-repeated, passed-next, zero-rest, zero-flagged}
 use Rattle.reader.proofs.accepting.judge_numbers.Statement.{statement}
 use Rattle.reader.proofs.accepting.judge_numbers.Tie as tie
-use Rattle.reader.proofs.accepting.judge_numbers.Reads as reads
-use Rattle.reader.proofs.accepting.judge_numbers.Lts as lts
-use Rattle.format.proofs.done.Reads as done-reads
-use Rattle.format.proofs.sector_repeated.Reads as sector-repeated-reads
-use Rattle.reader.proofs.sectors.sector_at.Reads as sector-at-reads
 
 abbrev Inv-loop : tie.InvT-loop
 Inv-loop track marks p seen₀ number q₀ seen q =
@@ -25,42 +20,33 @@ Inv-loop track marks p seen₀ number q₀ seen q =
 abbrev μ-loop : tie.MeasureT-loop
 μ-loop track marks p seen₀ number q₀ seen q = length track - q
 
--- src/accept.rt:95:9
 sector-at-requires : tie.Need-sector-at-requires Inv-loop μ-loop
 sector-at-requires c κs = search needs
 
--- src/accept.rt:96:18
 cast-number : tie.Need-cast-number Inv-loop μ-loop
 cast-number c = search needs
 
--- src/accept.rt:97:5
 array-write-seen : tie.Need-array-write-seen Inv-loop μ-loop
 array-write-seen c = search needs
 
--- src/accept.rt:99:5
 loop-holds : tie.Need-loop-holds Inv-loop μ-loop
 loop-holds c =
     let a = c .before .before .before .before .args in
     let y = c .before .sector-at in
     (length-set (replicate 256 0) (y .result .number) 1 ∙ length-replicate {A = ℕ} 256 0, zero-rest (a .track .now) (a .marks .now) (a .p) (c .before .before .before .before .pre .0) (c .before .before .before .before .pre .1) (asSector (y .result)) (y .ensures), refl)
 
--- src/accept.rt:100:13
 sector-at-requires-2 : tie.Need-sector-at-requires-2 Inv-loop μ-loop
 sector-at-requires-2 c κs = search needs
 
--- src/accept.rt:101:17
 cast-s : tie.Need-cast-s Inv-loop μ-loop
 cast-s c = search needs
 
--- src/accept.rt:102:12
 array-read-if1 : tie.Need-array-read-if1 Inv-loop μ-loop
 array-read-if1 c = search needs
 
--- src/accept.rt:103:13
 sector-repeated-requires : tie.Need-sector-repeated-requires Inv-loop μ-loop
 sector-repeated-requires c κs = search needs
 
--- src/accept.rt:103:13
 returns : tie.Need-returns Inv-loop μ-loop
 returns c =
     let a = c .before .before .before .before .before .before .before .before .before .before .args in
@@ -71,11 +57,9 @@ returns c =
     c .sector-repeated .ensures
     ∙ sym (ap answerOf (zero-flagged (a .track .now) (a .marks .now) (a .p) (c .before .before .before .before .before .before .before .before .before .before .pre .0) (c .before .before .before .before .before .before .before .before .before .before .pre .1) (asSector (z .result)) (z .ensures) ∙ x .inv .2 ∙ passed-repeated (a .track .now) (a .marks .now) (x .q) (y .result .number) (y .result .next) s (x .seen) (c .before .if1 .taken)))
 
--- src/accept.rt:105:9
 array-write-seen-2 : tie.Need-array-write-seen-2 Inv-loop μ-loop
 array-write-seen-2 c = search needs
 
--- src/accept.rt:99:5
 loop-less : tie.Need-loop-less Inv-loop μ-loop
 loop-less c =
     let a = c .before .before .before .before .before .before .before .before .before .args in
@@ -84,7 +68,6 @@ loop-less c =
     let s = passed (a .track .now) (a .marks .now) (x .q) (asSector (y .result)) (y .ensures) (c .before .before .before .loop-test .taken) (c .before .before .before .before .before .before .before .before .before .pre .0 .within) (x .inv .1) in
     omega arith
 
--- src/accept.rt:99:5
 loop-again : tie.Need-loop-again Inv-loop μ-loop
 loop-again c =
     let a = c .before .before .before .before .before .before .before .before .before .args in
@@ -93,11 +76,9 @@ loop-again c =
     let s = passed (a .track .now) (a .marks .now) (x .q) (asSector (y .result)) (y .ensures) (c .before .before .before .loop-test .taken) (c .before .before .before .before .before .before .before .before .before .pre .0 .within) (x .inv .1) in
     (length-set (x .seen) (y .result .number) 1 ∙ x .inv .0, passed-rest (a .track .now) (a .marks .now) (x .q) (y .result .number) (y .result .next) s, x .inv .2 ∙ passed-next (a .track .now) (a .marks .now) (x .q) (y .result .number) (y .result .next) s (x .seen) (c .if1 .left))
 
--- src/accept.rt:108:5
 done-requires : tie.Need-done-requires Inv-loop μ-loop
 done-requires c κs = search needs
 
--- src/accept.rt:89:1
 returns-2 : tie.Need-returns-2 Inv-loop μ-loop
 returns-2 c =
     let a = c .before .before .before .before .before .before .before .args in

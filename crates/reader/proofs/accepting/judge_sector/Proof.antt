@@ -5,30 +5,21 @@ use Rattle.reader.proofs.AcceptAnswers.{sector-count, sector-blocks}
 use borrow.Author.Needs.{needs}
 use Rattle.reader.proofs.accepting.judge_sector.Statement.{statement}
 use Rattle.reader.proofs.accepting.judge_sector.Tie as tie
-use Rattle.reader.proofs.accepting.judge_sector.Reads as reads
-use Rattle.reader.proofs.accepting.judge_sector.Lts as lts
-use Rattle.sector.proofs.judge_blocks.Reads as judge-blocks-reads
-use Rattle.sector.proofs.judge_count.Reads as judge-count-reads
 
--- src/accept.rt:27:9
 judge-count-requires : tie.Need-judge-count-requires
 judge-count-requires c κs = search needs
 
--- src/accept.rt:29:9
 returns : tie.Need-returns
 returns c =
     let a = c .before .before .before .before .args in
     sector-count (asHome (a .h)) (a .i) (asSettled (a .x)) (a .p) (a .last) (a .r .now) _ (c .before .before .judge-count .ensures) (c .if1 .taken)
 
--- src/accept.rt:31:34
 cast-judge-blocks : tie.Need-cast-judge-blocks
 cast-judge-blocks c = search needs
 
--- src/accept.rt:31:5
 judge-blocks-requires : tie.Need-judge-blocks-requires
 judge-blocks-requires c κs = search needs
 
--- src/accept.rt:23:1
 returns-2 : tie.Need-returns-2
 returns-2 c =
     let a = c .before .before .before .before .before .args in

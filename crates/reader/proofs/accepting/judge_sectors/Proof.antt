@@ -1,5 +1,5 @@
 -- `judge_sectors` meets its contract: sector 0 by its own span, and what is left behind it by the odd sector's check.
-use mathlib.Core.Path.{_≡_, sym, _∙_}
+use mathlib.Core.Path.{sym, _∙_}
 use native.Mathlib.Omega.{arith}
 use borrow.Author.Tests.{not-true, not-false}
 use Rattle.sector.specs.As.{asAddress, asHome}
@@ -7,38 +7,24 @@ use Rattle.reader.proofs.AcceptFirst.{first-front, first-rest, first-mi
 use borrow.Author.Needs.{needs}
 use Rattle.reader.proofs.accepting.judge_sectors.Statement.{statement}
 use Rattle.reader.proofs.accepting.judge_sectors.Tie as tie
-use Rattle.reader.proofs.accepting.judge_sectors.Reads as reads
-use Rattle.reader.proofs.accepting.judge_sectors.Lts as lts
-use Rattle.format.proofs.first_count_missing.Reads as first-count-missing-reads
-use Rattle.reader.proofs.accepting.judge_odd.Reads as judge-odd-reads
-use Rattle.reader.proofs.accepting.judge_sector.Reads as judge-sector-reads
-use Rattle.search.proofs.opens_plain.Reads as opens-plain-reads
-use Rattle.search.proofs.span_at.Reads as span-at-reads
-use Rattle.sector.proofs.address_in.Reads as address-in-reads
 
--- src/accept.rt:73:9
 opens-plain-requires : tie.Need-opens-plain-requires
 opens-plain-requires c κs = search needs
 
--- src/accept.rt:74:9
 first-count-missing-requires : tie.Need-first-count-missing-requires
 first-count-missing-requires c κs = search needs
 
--- src/accept.rt:74:9
 returns : tie.Need-returns
 returns c =
     let a = c .before .before .before .before .before .args in
     c .first-count-missing .ensures ∙ sym (first-missing (asHome (a .h)) (a .p) (a .track .now) (a .marks .now) (c .before .before .before .before .before .pre) (sym (c .before .before .opens-plain .ensures) ∙ not-true _ (c .before .if1 .taken)))
 
--- src/accept.rt:76:9
 span-at-requires : tie.Need-span-at-requires
 span-at-requires c κs = search needs
 
--- src/accept.rt:77:16
 add-from : tie.Need-add-from
 add-from c = search needs
 
--- src/accept.rt:78:14
 add-to : tie.Need-add-to
 add-to c =
     let a = c .before .before .before .before .before .before .args in
@@ -46,7 +32,6 @@ add-to c =
     let f = first-front (a .p) (a .track .now) (a .marks .now) (s .result .length) (c .before .before .before .before .before .before .pre) (sym (c .before .before .before .opens-plain .ensures) ∙ not-false _ (c .before .before .if1 .left)) (s .ensures .0) in
     omega (arith, c .before .before .before .before .before .before .pre .within)
 
--- src/accept.rt:79:64
 sub-judge-sector : tie.Need-sub-judge-sector
 sub-judge-sector c =
     let a = c .before .before .before .before .before .before .args in
@@ -54,7 +39,6 @@ sub-judge-sector c =
     let f = first-front (a .p) (a .track .now) (a .marks .now) (s .result .length) (c .before .before .before .before .before .before .pre) (sym (c .before .before .before .opens-plain .ensures) ∙ not-false _ (c .before .before .if1 .left)) (s .ensures .0) in
     omega arith
 
--- src/accept.rt:79:64
 part-judge-sector-start : tie.Need-part-judge-sector-start
 part-judge-sector-start c =
     let a = c .before .before .before .before .before .before .args in
@@ -62,7 +46,6 @@ part-judge-sector-start c =
     let f = first-front (a .p) (a .track .now) (a .marks .now) (s .result .length) (c .before .before .before .before .before .before .pre) (sym (c .before .before .before .opens-plain .ensures) ∙ not-false _ (c .before .before .if1 .left)) (s .ensures .0) in
     omega arith
 
--- src/accept.rt:79:64
 part-judge-sector-end : tie.Need-part-judge-sector-end
 part-judge-sector-end c =
     let a = c .before .before .before .before .before .before .args in
@@ -70,11 +53,9 @@ part-judge-sector-end c =
     let f = first-front (a .p) (a .track .now) (a .marks .now) (s .result .length) (c .before .before .before .before .before .before .pre) (sym (c .before .before .before .opens-plain .ensures) ∙ not-false _ (c .before .before .if1 .left)) (s .ensures .0) in
     omega arith
 
--- src/accept.rt:79:9
 judge-sector-requires : tie.Need-judge-sector-requires
 judge-sector-requires c κs = search needs
 
--- src/accept.rt:81:9
 returns-2 : tie.Need-returns-2
 returns-2 c =
     let a = c .before .before .before .before .before .before .before .before .before .before .args in
@@ -82,7 +63,6 @@ returns-2 c =
     let f = first-front (a .p) (a .track .now) (a .marks .now) (s .result .length) (c .before .before .before .before .before .before .before .before .before .before .pre) (sym (c .before .before .before .before .before .before .before .opens-plain .ensures) ∙ not-false _ (c .before .before .before .before .before .before .if1 .left)) (s .ensures .0) in
     first-refused (asHome (a .h)) (a .p) (s .result .length) (a .track .now) (a .marks .now) f (s .result .last) (s .ensures .1 .0) _ (c .before .before .judge-sector .ensures) (c .if2 .taken)
 
--- src/accept.rt:83:36
 sub-address-in : tie.Need-sub-address-in
 sub-address-in c =
     let a = c .before .before .before .before .before .before .before .before .before .before .args in
@@ -90,7 +70,6 @@ sub-address-in c =
     let f = first-front (a .p) (a .track .now) (a .marks .now) (s .result .length) (c .before .before .before .before .before .before .before .before .before .before .pre) (sym (c .before .before .before .before .before .before .before .opens-plain .ensures) ∙ not-false _ (c .before .before .before .before .before .before .if1 .left)) (s .ensures .0) in
     omega arith
 
--- src/accept.rt:83:36
 part-address-in-start : tie.Need-part-address-in-start
 part-address-in-start c =
     let a = c .before .before .before .before .before .before .before .before .before .before .args in
@@ -98,7 +77,6 @@ part-address-in-start c =
     let f = first-front (a .p) (a .track .now) (a .marks .now) (s .result .length) (c .before .before .before .before .before .before .before .before .before .before .pre) (sym (c .before .before .before .before .before .before .before .opens-plain .ensures) ∙ not-false _ (c .before .before .before .before .before .before .if1 .left)) (s .ensures .0) in
     omega arith
 
--- src/accept.rt:83:36
 part-address-in-end : tie.Need-part-address-in-end
 part-address-in-end c =
     let a = c .before .before .before .before .before .before .before .before .before .before .args in
@@ -106,11 +84,9 @@ part-address-in-end c =
     let f = first-front (a .p) (a .track .now) (a .marks .now) (s .result .length) (c .before .before .before .before .before .before .before .before .before .before .pre) (sym (c .before .before .before .before .before .before .before .opens-plain .ensures) ∙ not-false _ (c .before .before .before .before .before .before .if1 .left)) (s .ensures .0) in
     omega arith
 
--- src/accept.rt:83:9
 address-in-requires : tie.Need-address-in-requires
 address-in-requires c κs = search needs
 
--- src/accept.rt:84:15
 sub-judge-odd : tie.Need-sub-judge-odd
 sub-judge-odd c =
     let a = c .before .before .before .before .before .before .before .before .before .before .before .before .args in
@@ -118,7 +94,6 @@ sub-judge-odd c =
     let f = first-front (a .p) (a .track .now) (a .marks .now) (s .result .length) (c .before .before .before .before .before .before .before .before .before .before .before .before .pre) (sym (c .before .before .before .before .before .before .before .before .before .opens-plain .ensures) ∙ not-false _ (c .before .before .before .before .before .before .before .before .if1 .left)) (s .ensures .0) in
     omega arith
 
--- src/accept.rt:84:15
 part-judge-odd-start : tie.Need-part-judge-odd-start
 part-judge-odd-start c =
     let a = c .before .before .before .before .before .before .before .before .before .before .before .before .args in
@@ -126,11 +101,9 @@ part-judge-odd-start c =
     let f = first-front (a .p) (a .track .now) (a .marks .now) (s .result .length) (c .before .before .before .before .before .before .before .before .before .before .before .before .pre) (sym (c .before .before .before .before .before .before .before .before .before .opens-plain .ensures) ∙ not-false _ (c .before .before .before .before .before .before .before .before .if1 .left)) (s .ensures .0) in
     omega arith
 
--- src/accept.rt:84:15
 part-judge-odd-end : tie.Need-part-judge-odd-end
 part-judge-odd-end c = search needs
 
--- src/accept.rt:84:29
 sub-judge-odd-2 : tie.Need-sub-judge-odd-2
 sub-judge-odd-2 c =
     let a = c .before .before .before .before .before .before .before .before .before .before .before .before .before .args in
@@ -138,7 +111,6 @@ sub-judge-odd-2 c =
     let f = first-front (a .p) (a .track .now) (a .marks .now) (s .result .length) (c .before .before .before .before .before .before .before .before .before .before .before .before .before .pre) (sym (c .before .before .before .before .before .before .before .before .before .before .opens-plain .ensures) ∙ not-false _ (c .before .before .before .before .before .before .before .before .before .if1 .left)) (s .ensures .0) in
     omega (arith, c .before .before .before .before .before .before .before .before .before .before .before .before .before .pre .lengths)
 
--- src/accept.rt:84:29
 part-judge-odd-start-2 : tie.Need-part-judge-odd-start-2
 part-judge-odd-start-2 c =
     let a = c .before .before .before .before .before .before .before .before .before .before .before .before .before .args in
@@ -146,11 +118,9 @@ part-judge-odd-start-2 c =
     let f = first-front (a .p) (a .track .now) (a .marks .now) (s .result .length) (c .before .before .before .before .before .before .before .before .before .before .before .before .before .pre) (sym (c .before .before .before .before .before .before .before .before .before .before .opens-plain .ensures) ∙ not-false _ (c .before .before .before .before .before .before .before .before .before .if1 .left)) (s .ensures .0) in
     omega (arith, c .before .before .before .before .before .before .before .before .before .before .before .before .before .pre .lengths)
 
--- src/accept.rt:84:29
 part-judge-odd-end-2 : tie.Need-part-judge-odd-end-2
 part-judge-odd-end-2 c = search needs
 
--- src/accept.rt:84:5
 judge-odd-requires : tie.Need-judge-odd-requires
 judge-odd-requires c κs =
     let a = c .before .before .before .before .before .before .before .before .before .before .before .before .before .before .args in
@@ -158,7 +128,6 @@ judge-odd-requires c κs =
     let f = first-front (a .p) (a .track .now) (a .marks .now) (s .result .length) (c .before .before .before .before .before .before .before .before .before .before .before .before .before .before .pre) (sym (c .before .before .before .before .before .before .before .before .before .before .before .opens-plain .ensures) ∙ not-false _ (c .before .before .before .before .before .before .before .before .before .before .if1 .left)) (s .ensures .0) in
     first-rest (a .p) (s .result .length) (a .track .now) (a .marks .now) f
 
--- src/accept.rt:69:1
 returns-3 : tie.Need-returns-3
 returns-3 c =
     let a = c .before .before .before .before .before .before .before .before .before .before .before .before .before .before .before .args in

@@ -1,5 +1,5 @@
 -- `judge_home` meets its contract: where home is found, the bytes that follow its opening decide.
-use mathlib.Core.Path.{_≡_, refl, sym, ap, _∙_}
+use mathlib.Core.Path.{sym, ap, _∙_}
 use native.Mathlib.Omega.{arith}
 use Rattle.format.specs.Judged.{Judged, refused}
 use Rattle.format.specs.Lent.{cells}
@@ -9,70 +9,49 @@ use Rattle.reader.proofs.AcceptHome.{home-nowhere, home-found, home-sho
 use borrow.Author.Needs.{needs}
 use Rattle.reader.proofs.home.judge_home.Statement.{statement}
 use Rattle.reader.proofs.home.judge_home.Tie as tie
-use Rattle.reader.proofs.home.judge_home.Reads as reads
-use Rattle.reader.proofs.home.judge_home.Lts as lts
-use Rattle.format.proofs.home_check_wrong.Reads as home-check-wrong-reads
-use Rattle.format.proofs.home_missing.Reads as home-missing-reads
-use Rattle.reader.proofs.home.judge_fields.Reads as judge-fields-reads
-use Rattle.search.proofs.cell_count.Reads as cell-count-reads
-use Rattle.search.proofs.find_home.Reads as find-home-reads
 
--- src/home.rt:46:9
 find-home-requires : tie.Need-find-home-requires
 find-home-requires c κs = search needs
 
--- src/home.rt:48:27
 enum-known-found : tie.Need-enum-known-found
 enum-known-found c = search needs
 
--- src/home.rt:49:24
 add-from : tie.Need-add-from
 add-from c = let f = rw (c .before .found .given .1) at (c .before .before .before .find-home .ensures) in omega arith
 
--- src/home.rt:50:22
 add-to : tie.Need-add-to
 add-to c = let f = rw (c .before .found .given .1) at (c .before .before .before .find-home .ensures) in omega arith
 
--- src/home.rt:51:16
 cell-count-requires : tie.Need-cell-count-requires
 cell-count-requires c κs = search needs
 
--- src/home.rt:52:44
 home-check-wrong-requires : tie.Need-home-check-wrong-requires
 home-check-wrong-requires c κs = search needs
 
--- src/home.rt:52:17
 returns : tie.Need-returns
 returns c =
     let a = c .before .before .before .before .before .before .before .before .before .args in
     let f = rw (c .before .before .before .before .found .given .1) at (c .before .before .before .before .before .before .find-home .ensures) in
     (ap {B = Judged Home} refused (c .home-check-wrong .ensures) ∙ sym (home-short (cells (a .track .now) (a .marks .now)) _ (sym (f .0)) (omega arith)), tt)
 
--- src/home.rt:54:29
 sub-judge-fields : tie.Need-sub-judge-fields
 sub-judge-fields c = search needs
 
--- src/home.rt:54:29
 part-judge-fields-start : tie.Need-part-judge-fields-start
 part-judge-fields-start c = search needs
 
--- src/home.rt:54:29
 part-judge-fields-end : tie.Need-part-judge-fields-end
 part-judge-fields-end c = search needs
 
--- src/home.rt:54:13
 judge-fields-requires : tie.Need-judge-fields-requires
 judge-fields-requires c κs = search needs
 
--- src/home.rt:56:55
 enum-told : tie.Need-enum-told
 enum-told c = search needs
 
--- src/home.rt:56:55
 home-missing-requires : tie.Need-home-missing-requires
 home-missing-requires c κs = search needs
 
--- src/home.rt:42:1
 returns-2 : tie.Need-returns-2
 returns-2 c =
     let a = c .before .before .before .before .before .before .before .before .before .before .args in
@@ -82,7 +61,6 @@ returns-2 c =
     let l = c .before .before .before .cell-count .ensures in
     (c .judge-fields .ensures .0 ∙ sym (home-found d _ (sym (f .0)) ∙ ap (judgeHomeOf _) (home-bytes (a .track .now) (a .marks .now) _ (λ i. omega (arith, b i)) (omega arith))), in-window _ (c .judge-fields .result) (c .judge-fields .ensures .1) (f .1))
 
--- src/home.rt:42:1
 returns-3 : tie.Need-returns-3
 returns-3 c =
     let a = c .before .before .before .before .before .before .args in

@@ -3,22 +3,16 @@ use borrow.Author.Tests.{eq-eqb, ne-eqb}
 use borrow.Author.Needs.{needs}
 use Rattle.reader.proofs.sectors.key_place.Statement.{statement}
 use Rattle.reader.proofs.sectors.key_place.Tie as tie
-use Rattle.reader.proofs.sectors.key_place.Reads as reads
-use Rattle.reader.proofs.sectors.key_place.Lts as lts
 
--- src/sectors.rt:38:9
 returns : tie.Need-returns
 returns c = rw (eq-eqb (c .before .args .n) 0 (c .if1 .taken))
 
--- src/sectors.rt:40:5
 add-result : tie.Need-add-result
 add-result c = search needs
 
--- src/sectors.rt:40:5
 add-result-2 : tie.Need-add-result-2
 add-result-2 c = search needs
 
--- src/sectors.rt:33:1
 returns-2 : tie.Need-returns-2
 returns-2 c = rw (ne-eqb (c .before .args .n) 0 (c .if1 .left))
 

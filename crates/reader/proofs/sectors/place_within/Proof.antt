@@ -4,15 +4,11 @@ use borrow.Author.Tests.{lt-ltb, le-ltb}
 use Rattle.reader.specs.Accepting.{placeWithin}
 use Rattle.reader.proofs.sectors.place_within.Statement.{statement}
 use Rattle.reader.proofs.sectors.place_within.Tie as tie
-use Rattle.reader.proofs.sectors.place_within.Reads as reads
-use Rattle.reader.proofs.sectors.place_within.Lts as lts
 
--- src/sectors.rt:22:1
 returns : tie.Need-returns
 unfolding placeWithin
 returns c = (rw (lt-ltb 4002 (c .before .args .p) (c .if1 .taken)), omega arith)
 
--- src/sectors.rt:22:1
 returns-2 : tie.Need-returns-2
 unfolding placeWithin
 returns-2 c = (rw (le-ltb 4002 (c .before .args .p) (c .if1 .left)), c .if1 .left)

@@ -1,5 +1,5 @@
 -- `sector_at` meets its contract: what follows the opening in its span is the track's own bytes.
-use mathlib.Core.Path.{_≡_, sym, ap, _∙_}
+use mathlib.Core.Path.{_∙_}
 use native.Mathlib.Omega.{arith}
 use lib.ListN.{drop, length-drop}
 use Rattle.format.specs.Lent.{cells}
@@ -10,53 +10,37 @@ use Rattle.reader.proofs.AcceptStanding.{opening-more, standing-short, 
 use borrow.Author.Needs.{needs}
 use Rattle.reader.proofs.sectors.sector_at.Statement.{statement}
 use Rattle.reader.proofs.sectors.sector_at.Tie as tie
-use Rattle.reader.proofs.sectors.sector_at.Reads as reads
-use Rattle.reader.proofs.sectors.sector_at.Lts as lts
-use Rattle.reader.proofs.sectors.place_within.Reads as place-within-reads
-use Rattle.reader.proofs.sectors.sector_of.Reads as sector-of-reads
-use Rattle.search.proofs.span_at.Reads as span-at-reads
-use Rattle.sector.proofs.opening_length.Reads as opening-length-reads
 
--- src/sectors.rt:56:9
 place-within-requires : tie.Need-place-within-requires
 place-within-requires c κs = search needs
 
--- src/sectors.rt:57:9
 opening-length-requires : tie.Need-opening-length-requires
 opening-length-requires c κs = search needs
 
--- src/sectors.rt:58:9
 span-at-requires : tie.Need-span-at-requires
 span-at-requires c κs = search needs
 
--- src/sectors.rt:59:16
 add-from : tie.Need-add-from
 add-from c = omega (arith, opening-le (c .before .before .before .before .before .args .first))
 
--- src/sectors.rt:60:14
 add-to : tie.Need-add-to
 add-to c =
     let a = c .before .before .before .before .before .before .args in
     let d = drop (c .before .before .before .place-within .result) (cells (a .track .now) (a .marks .now)) in
     omega (arith, span-le (c .before .before .opening-length .result) d, length-drop (c .before .before .before .place-within .result) (cells (a .track .now) (a .marks .now)), length-cells (a .track .now) (a .marks .now))
 
--- src/sectors.rt:62:47
 sub-sector-of : tie.Need-sub-sector-of
 sub-sector-of c = search needs
 
--- src/sectors.rt:62:47
 part-sector-of-start : tie.Need-part-sector-of-start
 part-sector-of-start c = search needs
 
--- src/sectors.rt:62:47
 part-sector-of-end : tie.Need-part-sector-of-end
 part-sector-of-end c = search needs
 
--- src/sectors.rt:62:9
 sector-of-requires : tie.Need-sector-of-requires
 sector-of-requires c κs = omega (arith, opening-le (c .before .before .before .before .before .before .before .before .args .first))
 
--- src/sectors.rt:62:9
 returns : tie.Need-returns
 returns c =
     let a = c .before .before .before .before .before .before .before .before .before .args in
@@ -66,22 +50,18 @@ returns c =
     rw (← w .ensures .0)
     (c .sector-of .ensures ∙ standing-short (a .track .now) (a .marks .now) (a .first) (w .result) (o .result) (s .result .length) (s .result .last) (o .ensures) (s .ensures .0) (s .ensures .1 .0) (c .before .before .if1 .taken))
 
--- src/sectors.rt:64:36
 part-sector-of-start-2 : tie.Need-part-sector-of-start-2
 part-sector-of-start-2 c = search needs
 
--- src/sectors.rt:64:36
 part-sector-of-end-2 : tie.Need-part-sector-of-end-2
 part-sector-of-end-2 c =
     let a = c .before .before .before .before .before .before .before .args in
     let d = drop (c .before .before .before .before .place-within .result) (cells (a .track .now) (a .marks .now)) in
     omega (arith, opening-more (a .first), span-le (c .before .before .before .opening-length .result) d, length-drop (c .before .before .before .before .place-within .result) (cells (a .track .now) (a .marks .now)), length-cells (a .track .now) (a .marks .now))
 
--- src/sectors.rt:64:5
 sector-of-requires-2 : tie.Need-sector-of-requires-2
 sector-of-requires-2 c κs = omega (arith, opening-le (c .before .before .before .before .before .before .before .before .args .first))
 
--- src/sectors.rt:53:1
 returns-2 : tie.Need-returns-2
 returns-2 c =
     let a = c .before .before .before .before .before .before .before .before .before .args in

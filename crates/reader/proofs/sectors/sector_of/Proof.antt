@@ -5,58 +5,39 @@ use Rattle.reader.specs.Accepting.{sectorOf}
 use borrow.Author.Needs.{needs}
 use Rattle.reader.proofs.sectors.sector_of.Statement.{statement}
 use Rattle.reader.proofs.sectors.sector_of.Tie as tie
-use Rattle.reader.proofs.sectors.sector_of.Reads as reads
-use Rattle.reader.proofs.sectors.sector_of.Lts as lts
-use Rattle.reader.proofs.sectors.key_place.Reads as key-place-reads
-use Rattle.sector.proofs.block_end.Reads as block-end-reads
-use Rattle.sector.proofs.data_offset.Reads as data-offset-reads
-use Rattle.sector.proofs.byte_at.Reads as byte-at-reads
-use Rattle.sector.proofs.data_length.Reads as data-length-reads
-use Rattle.sector.proofs.key_length.Reads as key-length-reads
 
--- src/sectors.rt:48:9
 key-length-requires : tie.Need-key-length-requires
 key-length-requires c κs = search needs
 
--- src/sectors.rt:49:9
 data-length-requires : tie.Need-data-length-requires
 data-length-requires c κs = search needs
 
--- src/sectors.rt:50:9
 key-place-requires : tie.Need-key-place-requires
 key-place-requires c κs = search needs
 
--- src/sectors.rt:51:29
 data-offset-requires : tie.Need-data-offset-requires
 data-offset-requires c κs = search needs
 
--- src/sectors.rt:51:22
 add-data-place : tie.Need-add-data-place
 add-data-place c = omega (arith, offset-lt (c .before .before .before .before .before .args .r .now) (omega (arith, c .before .before .before .before .shared-slice-known .given 6)))
 
--- src/sectors.rt:51:22
 add-data-place-2 : tie.Need-add-data-place-2
 add-data-place-2 c = omega (arith, offset-lt (c .before .before .before .before .before .args .r .now) (omega (arith, c .before .before .before .before .shared-slice-known .given 6)))
 
--- src/sectors.rt:52:22
 block-end-requires : tie.Need-block-end-requires
 block-end-requires c κs = search needs
 
--- src/sectors.rt:52:15
 add-end : tie.Need-add-end
 add-end c =
     let b = c .before .before .before .before .before .shared-slice-known .given in
     omega (arith, end-lt (c .before .before .before .before .before .before .args .r .now) (omega (arith, b 6)) (omega (arith, b 7)) (omega (arith, b 8)))
 
--- src/sectors.rt:54:15
 byte-at-requires : tie.Need-byte-at-requires
 byte-at-requires c κs = search needs
 
--- src/sectors.rt:55:17
 byte-at-requires-2 : tie.Need-byte-at-requires-2
 byte-at-requires-2 c κs = search needs
 
--- src/sectors.rt:44:1
 returns : tie.Need-returns
 unfolding sectorOf
 returns c =
