@@ -1,13 +1,28 @@
-# make: prove and build all · make test: all tests · make fmt: the layout of every file
+# make: prove and build all · make list: the main job on a sample · make test: all tests · make try: the C programs
+# make soak: the comparison on as many tracks as one likes · make bench: times beside the reference · make fmt: the layout of every file
 SHELL := /bin/bash
 .SHELLFLAGS := -eo pipefail -c
 MAKEFLAGS += --no-print-directory
-.PHONY: all test prove host-test fmt clean
+.PHONY: all list test prove host-test lib examples try soak bench sample fmt clean
+
+LIB := target/staticlib/libstation.a
+EXAMPLES := target/examples/station target/examples/reader
+CARGO := cargo --offline
+CFLAGS ?= -O2
+SOAK ?= 200000
+SEED ?= 1000000
 
 all:
 	rt check
+	$(MAKE) examples
 
-# The gate: every crate proved from nothing, every must-fail edit refused, every program run, then the host tests.
+# The main job: the sectors of a sample track.
+list:
+	@mkdir -p build
+	@rt check tracklist > build/list.log 2>&1 || { cat build/list.log; exit 1; }
+	target/bin/tracklist < samples/case5.bin
+
+# The gate: every crate proved from nothing, every must-fail edit refused, every program run, then the host tests over the proved library.
 # Its last line is the last line of 'rt ci'.
 test: prove host-test
 	@tail -n 1 build/ci.log
@@ -18,11 +33,43 @@ prove:
 	rt ci 2>&1 | tee build/ci.log
 
 host-test: prove
-	cargo test --quiet --offline --manifest-path host/Cargo.toml
+	$(MAKE) try
+	cd host && $(CARGO) test --quiet
+
+# The proved library as an archive for C and Rust.
+lib:
+	rt staticlib station
+
+# The C programs.
+examples: lib
+	$(MAKE) $(EXAMPLES)
+
+target/examples/%: examples/%.c include/iso3561.h $(LIB)
+	mkdir -p $(@D)
+	$(CC) -std=c99 -Wall -Wextra -pedantic $(CFLAGS) -Iinclude $< $(LIB) -o $@
+
+# The C station makes the sample's very bytes, tracklist lists them, and the C reader reads them.
+try: examples
+	target/examples/station target/examples/case5.bin
+	cmp target/examples/case5.bin samples/case5.bin
+	target/bin/tracklist < target/examples/case5.bin
+	target/examples/reader target/examples/case5.bin
+
+# As many seeds as one likes: make soak SOAK=1000000 SEED=5000000
+soak: lib
+	cd host && ISO3561_SOAK=$(SOAK) ISO3561_SEED=$(SEED) $(CARGO) test -p station --test reading --test writing
+
+# Times beside the reference.
+bench: lib
+	cd host && $(CARGO) run --release --quiet -p bench
+
+# The sample made anew by the reference.
+sample:
+	cd host && $(CARGO) run --quiet -p reference --example sample > ../samples/case5.bin
 
 fmt:
 	rt fmt
-	cargo fmt --manifest-path host/Cargo.toml
+	cd host && cargo fmt
 
 clean:
 	rm -rf build target host/target

@@ -7,8 +7,6 @@ pub mod AcceptFirst
 pub mod AcceptStanding
 pub mod AcceptNumbers
 pub mod AcceptBehind
-pub mod AcceptSectors
-pub mod AcceptContents
 pub mod CandidateParts
 pub mod CandidateNext
 pub mod FindSteps

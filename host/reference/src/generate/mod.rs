@@ -1,8 +1,9 @@
-//! Tracks for tests, drawn from a seed: sound ones, damaged ones, pairs, and wanted fields.
+//! Tracks for tests, drawn from a seed: sound ones, damaged ones, jumbled ones, pairs, and wanted fields.
 //!
 //! Sound tracks are laid out here by hand and never by the writing calls.
 
 mod damage;
+mod jumble;
 mod pairs;
 mod plan;
 mod rng;
@@ -10,6 +11,7 @@ mod sound;
 mod wanted;
 
 pub use damage::{damage, damaged, recheck};
+pub use jumble::jumbled;
 pub use pairs::{pair, Pair, Track};
 pub use plan::{Built, Places, Plan, PlannedSector};
 pub use rng::Rng;

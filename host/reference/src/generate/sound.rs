@@ -69,7 +69,7 @@ pub(super) fn sound_with(rng: &mut Rng, flag: u8, address: Address, partner: Add
 }
 
 /// A track length, often at an end of its range.
-fn random_length(rng: &mut Rng) -> usize {
+pub(super) fn random_length(rng: &mut Rng) -> usize {
     match rng.below(6) {
         0 => SHORTEST,
         1 => LONGEST,

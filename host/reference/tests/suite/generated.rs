@@ -101,6 +101,24 @@ fn damaged_tracks_give_every_answer() {
     assert_eq!((seen[12], seen[14], seen[15], seen[16]), (0, 0, 0, 0));
 }
 
+/// Jumbled tracks give many candidates and several answers.
+#[test]
+fn jumbled_tracks_are_varied() {
+    let mut seen = [0; 17];
+    let mut candidates = 0;
+    for seed in 0..2_000 {
+        let (track, marks) = jumbled(seed);
+        assert_eq!(track.len(), marks.len());
+        seen[usize::from(accept(&track, &marks).number)] += 1;
+        candidates += walked(&track, &marks).len();
+    }
+    for number in [2, 3, 5, 8, 9, 11] {
+        assert!(seen[number] > 0, "{number} of {seen:?}");
+    }
+    assert_eq!(seen[1], 0);
+    assert!(candidates > 20_000, "{candidates}");
+}
+
 /// List, Add and Correct pass on what Accept answers, and Pair find does for the second track.
 #[test]
 fn damaged_tracks_are_refused_alike() {

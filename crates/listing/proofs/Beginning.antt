@@ -1,0 +1,79 @@
+-- What is settled before any record is filled: by the length of the list, and by what Accept says.
+use mathlib.Core.Path.{_≡_, refl, sym, ap, _∙_}
+use Prim.Native.Nat.{ℕ, _≤_, _<_}
+use native.Mathlib.Omega.{arith}
+use mathlib.Core.List.{List}
+use lib.ListN.{length}
+use borrow.Author.Tests.{le-leb, lt-leb}
+use Rattle.format.specs.declared.Answer.{Answer as AnswerCode}
+use Rattle.format.specs.Answer.{Answer, answerAt, done, lentWrong}
+use Rattle.format.specs.Judged.{Judged, good, refused, then, answerOf}
+use Rattle.format.specs.Home.{Home, firstCountPlace}
+use Rattle.format.specs.Accept.{Accepted, accept}
+use Rattle.format.specs.Listing.{Listed, mostSectors, list}
+use Rattle.format.proofs.Judged.{good-inj}
+use Rattle.format.proofs.ListAccepted.{list-records, list-refuses, list-short}
+use Rattle.listing.specs.declared.Begun.{Begun}
+use Rattle.listing.specs.Filling.{recordsOf, firstCount, firstFor, refusedBy, begun}
+
+-- Accept's home says where sector 0's count opens.
+pub first-count : (t m : List ℕ) (h : Home) → _≡_ {A = Judged Home} (good h) (then (accept t m) (λ (a : Accepted). good (a .home)))
+    → firstCount t m ≡ good (firstCountPlace (h .place))
+unfolding firstCount
+first-count t m h e = go (accept t m) e
+  where
+    go : (j : Judged Accepted) → _≡_ {A = Judged Home} (good h) (then j (λ (a : Accepted). good (a .home)))
+        → then j (λ (a : Accepted). good (firstCountPlace (a .home .place))) ≡ good (firstCountPlace (h .place))
+    go (good a) q = ap {B = Judged ℕ} (λ (k : Home). good (firstCountPlace (k .place))) (sym (good-inj h (a .home) q))
+    go (refused b) q = absurd (let z : _≡_ {A = ℕ} 0 1 = cc in omega arith)
+
+-- Accept's refusal is handed on.
+pub first-refused : (t m : List ℕ) (b : Answer) → _≡_ {A = Judged Home} (refused b) (then (accept t m) (λ (a : Accepted). good (a .home)))
+    → accept t m ≡ refused b
+first-refused t m b e = go (accept t m) e
+  where
+    go : (j : Judged Accepted) → _≡_ {A = Judged Home} (refused b) (then j (λ (a : Accepted). good (a .home))) → j ≡ refused b
+    go (good a) q = absurd (let z : _≡_ {A = ℕ} 0 1 = cc in omega arith)
+    go (refused d) q = cc
+
+-- Where the outcome is refused, nothing is listed.
+refused-so : (n : ℕ) (t m : List ℕ) (x : AnswerCode) (b : Answer) → answerAt (x .number) (x .place) ≡ b → list n t m ≡ refused b → firstFor n t m ≡ 0
+    → refusedBy x ≡ begun n t m
+refused-so n t m x b e l f =
+    let k : 0 ≡ length (recordsOf (list n t m)) = rw l refl in
+    let q : answerAt (x .number) (x .place) ≡ answerOf (list n t m) = rw l e in
+    λ i. record { listing = record { answer = record { number = q i .number; place = q i .place }; count = k i }; first = sym f i }
+
+-- A list under 67 is refused by 1.
+pub begun-short : (n : ℕ) (t m : List ℕ) (x : AnswerCode) → answerAt (x .number) (x .place) ≡ lentWrong → n < mostSectors → refusedBy x ≡ begun n t m
+unfolding firstFor
+begun-short n t m x e l = refused-so n t m x lentWrong e (list-short n t m l) (rw (lt-leb mostSectors n l))
+
+-- A track that Accept refuses is refused by the same answer.
+pub begun-refused : (n : ℕ) (t m : List ℕ) (x : AnswerCode) → mostSectors ≤ n → accept t m ≡ refused (answerAt (x .number) (x .place)) → refusedBy x ≡ begun n t m
+unfolding firstFor firstCount
+begun-refused n t m x l e =
+    refused-so n t m x (answerAt (x .number) (x .place)) refl (list-refuses n t m (answerAt (x .number) (x .place)) l e) (rw (le-leb mostSectors n l, e))
+
+-- The length of a list of 67 or more makes no difference.
+same-list : (n : ℕ) (t m : List ℕ) → mostSectors ≤ n → list mostSectors t m ≡ list n t m
+unfolding list
+same-list n t m l = rw (le-leb mostSectors n l)
+
+-- An accepted track is listed.
+answer-good : (n : ℕ) (t m : List ℕ) (p : ℕ) → mostSectors ≤ n → firstCount t m ≡ good p → done ≡ answerOf (list n t m)
+unfolding firstCount
+answer-good n t m p l e = go (accept t m) refl e
+  where
+    go : (j : Judged Accepted) → accept t m ≡ j → then j (λ (a : Accepted). good (firstCountPlace (a .home .place))) ≡ good p → done ≡ answerOf (list n t m)
+    go (good a) g q = rw (list-records n t m a l g) refl
+    go (refused b) g q = absurd (let z : _≡_ {A = ℕ} 0 1 = cc in omega arith)
+
+pub begun-good : (n : ℕ) (t m : List ℕ) (p k : ℕ) (x : AnswerCode) → answerAt (x .number) (x .place) ≡ done → mostSectors ≤ n → firstCount t m ≡ good p
+    → k ≡ length (recordsOf (list mostSectors t m)) → _≡_ {A = Begun} (record { listing = record { answer = x; count = k }; first = p }) (begun n t m)
+unfolding firstFor
+begun-good n t m p k x e l f c =
+    let q : answerAt (x .number) (x .place) ≡ answerOf (list n t m) = e ∙ answer-good n t m p l f in
+    let j : k ≡ length (recordsOf (list n t m)) = c ∙ ap (λ (o : Judged (List Listed)). length (recordsOf o)) (same-list n t m l) in
+    let h : firstFor n t m ≡ p = rw (le-leb mostSectors n l, f) in
+    λ i. record { listing = record { answer = record { number = q i .number; place = q i .place }; count = j i }; first = sym h i }

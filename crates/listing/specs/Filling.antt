@@ -1,0 +1,84 @@
+-- List into the caller's records: which are filled, with what, and what stays.
+use Prim.Native.Nat.{ℕ}
+use mathlib.Core.List.{List, [], _++_, map}
+use lib.ListN.{length, drop}
+use lib.Dec.{leb}
+use Rattle.format.specs.declared.Answer.{Answer}
+use Rattle.format.specs.Answer.{lentWrong}
+use Rattle.format.specs.Judged.{Judged, good, then, require, answerOf, valueOr}
+use Rattle.format.specs.Home.{firstCountPlace}
+use Rattle.format.specs.Accept.{accept}
+use Rattle.format.specs.Listing.{Listed, mostSectors, list}
+use Rattle.sectors.specs.Stepped.{Stepped, steppedAt}
+use Rattle.listing.specs.declared.Sector.{Sector}
+use Rattle.listing.specs.declared.SectorNext.{SectorNext}
+use Rattle.listing.specs.declared.Listing.{Listing}
+use Rattle.listing.specs.declared.Begun.{Begun}
+
+-- What a record of the code says.
+abbrev pub asListed : Sector → Listed
+asListed s =
+    record {
+      flag = s .flag;
+      number = s .number;
+      keyLength = s .«key_length»;
+      dataLength = s .«data_length»;
+      keyPlace = s .«key_place»;
+      dataPlace = s .«data_place»;
+    }
+
+-- What a list of them says.
+abbrev pub asRecords : List Sector → List Listed
+asRecords xs = map asListed xs
+
+-- The records of an outcome: none where it is refused.
+abbrev pub recordsOf : Judged (List Listed) → List Listed
+recordsOf j = valueOr [] j
+
+-- The caller's list after the call: the records of the outcome, and behind them what stood there.
+unfoldable pub filled : Judged (List Listed) → List Listed → List Listed
+filled j old = recordsOf j ++ drop (length (recordsOf j)) old
+
+-- The record of a sector that is come to.
+abbrev pub asSector : Stepped → Sector
+asSector v =
+    record {
+      flag = v .flag;
+      number = v .number;
+      «key_length» = v .keyLength;
+      «data_length» = v .dataLength;
+      «key_place» = v .keyPlace;
+      «data_place» = v .dataPlace;
+    }
+
+-- The sector whose count opens at place p of the cells c: home starts at 37 at the latest, so sector 0's count opens at 62 or before.
+unfoldable pub sectorAt : List ℕ → ℕ → Stepped
+sectorAt c p = steppedAt (leb p 62) p c
+
+-- Its record, and the place at which the next count opens.
+abbrev pub recordAt : List ℕ → ℕ → SectorNext
+recordAt c p = record { sector = asSector (sectorAt c p); next = sectorAt c p .next }
+
+-- The place of sector 0's count on an accepted track.
+unfoldable pub firstCount : List ℕ → List ℕ → Judged ℕ
+firstCount t m = then (accept t m) (λ a. good (firstCountPlace (a .home .place)))
+
+-- The same for a list of n; 0 where the list or the track is refused.
+unfoldable pub firstFor : ℕ → List ℕ → List ℕ → ℕ
+firstFor n t m = valueOr 0 (require (leb mostSectors n) lentWrong (firstCount t m))
+
+-- The answer and the number of records of an outcome.
+abbrev pub asListing : Judged (List Listed) → Listing
+asListing j = record { answer = record { number = answerOf j .number; place = answerOf j .place }; count = length (recordsOf j) }
+
+-- What is settled where the answer a refuses: no record.
+abbrev pub refusedBy : Answer → Begun
+refusedBy a = record { listing = record { answer = a; count = 0 }; first = 0 }
+
+-- What is settled before any record is filled.
+abbrev pub begun : ℕ → List ℕ → List ℕ → Begun
+begun n t m = record { listing = asListing (list n t m); first = firstFor n t m }
+
+-- A record of a list that no sector has filled yet.
+abbrev pub empty : Sector
+empty = record { flag = 0; number = 0; «key_length» = 0; «data_length» = 0; «key_place» = 0; «data_place» = 0 }

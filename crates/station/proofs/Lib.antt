@@ -1,0 +1,2 @@
+-- The laws that lead from the calls of C to the definitions.
+pub mod Asked

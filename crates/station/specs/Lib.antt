@@ -1,0 +1,2 @@
+-- What the calls from C give, as one number each.
+pub mod Packed

@@ -1,0 +1,243 @@
+-- Correct on an accepted track: the sector that is corrected, the track that is written, and the answers in their order.
+use mathlib.Core.Path.{_≡_, refl, sym, ap, ap₂, _∙_, subst}
+use Prim.Native.Nat.{ℕ, _+_, _-_, _/_, _%_, _≤_, _<_}
+use native.Mathlib.Omega.{arith}
+use mathlib.Core.Bool.{Bool, true, false}
+use mathlib.Core.List.{List, [], _∷_, _++_, map}
+use lib.ListN.{length, take, drop}
+use lib.Seq.{length-take-le}
+use lib.Dec.{eqb}
+use borrow.Author.Tests.{le-leb, lt-leb}
+use Rattle.crc.specs.Check.{pick}
+use Rattle.format.specs.Answer.{lentWrong, sectorMissing, wantedWrong, roomMissing}
+use Rattle.format.specs.Judged.{Judged, good, refused}
+use Rattle.format.specs.Lent.{cells, bytesOf, marksOf, unmarked}
+use Rattle.format.specs.Block.{leastGap}
+use Rattle.format.specs.Span.{none}
+use Rattle.format.specs.Sector.{Sector}
+use Rattle.format.specs.Accept.{Placed, Accepted, acceptCells, accept}
+use Rattle.format.specs.Written.{gapOne, gapAfter, writtenSector, reach, writtenSpans, writtenBehind, Pair, asPair}
+use Rattle.format.specs.Blank.{contentRight}
+use Rattle.format.specs.Add.{bothLent, fromNumber}
+use Rattle.format.specs.Correct.{withContent, sectorsOf, rewrittenFrom, correctCells, correct}
+use Rattle.format.proofs.Lists.{take-map}
+use Rattle.format.proofs.Pairs.{pairOf, accepted-pair, bytes-cells, marks-cells, length-cells}
+use Rattle.sector.specs.declared.fields.Address.{Address as AddressCode}
+use Rattle.sector.specs.As.{asAddress}
+use Rattle.encode.specs.Laid.{laidOver, laidAt}
+use Rattle.encode.specs.Room.{sectorFrom, sectorSize}
+use Rattle.encode.proofs.Cells.{bytes-append, marks-append}
+use Rattle.encode.proofs.Sectors.{sector-length}
+use Rattle.sectors.specs.declared.SectorAt.{SectorAt}
+use Rattle.sectors.specs.Stepped.{Stepped, steppedAt, addressAt, asStepped}
+use Rattle.sectors.proofs.From.{SectorsFrom, Step, step-at, steps-end, Started, accepted-start}
+use Rattle.writer.specs.After.{filledSpan}
+use Rattle.writer.specs.Left.{Readable, Left, LeftRoom, RoomFor, laterCells, farthest, correctedEnd, correctedCells}
+use Rattle.writer.proofs.Filled.{take-over}
+use Rattle.writer.proofs.Farthest.{farthest-from}
+use Rattle.writer.proofs.Later.{spanEnd, room-split, none-sectors, bytes-more, marks-more}
+
+-- The sectors of a readable track.
+pub readable-steps : (t m : List ℕ) (start : ℕ) (r : Readable t m start) → SectorsFrom t m start true (r .accepted .sectors)
+readable-steps t m start r =
+    subst (λ (p : ℕ). SectorsFrom t m p true (r .accepted .sectors)) (sym (r .starts)) (accepted-start t m (r .accepted) (r .is-accepted) .steps)
+
+pub readable-left : (t m : List ℕ) (start : ℕ) → Readable t m start → Left t m start true
+readable-left t m start r =
+    let z = accepted-start t m (r .accepted) (r .is-accepted) in
+    record {
+      sectors = r .accepted .sectors;
+      steps = readable-steps t m start r;
+      cells-length = z .cells-length;
+      length-most = z .length-most;
+    }
+
+-- Such a track has at least 3,815 bytes and as many marks.
+pub readable-lengths : (t m : List ℕ) (start : ℕ) → Readable t m start → (3815 ≤ length t) × (length m ≡ length t)
+readable-lengths t m start r = let z = accepted-start t m (r .accepted) (r .is-accepted) in (z .length-least, z .marks-length)
+
+-- Before the end there is a sector.
+pub some-left : (t m : List ℕ) (p : ℕ) (first : Bool) (xs : List Placed) → SectorsFrom t m p first xs → p < length (cells t m)
+    → (x : Placed) × ((later : List Placed) × (xs ≡ x ∷ later))
+some-left t m p first [] e l = absurd (omega arith)
+some-left t m p first (x ∷ xs) e l = (x, (xs, refl))
+
+-- The first of the sectors that are left before the end.
+pub record FirstLeft (t m : List ℕ) (q : ℕ) (first : Bool) : Type 0 where
+  pub sector : Placed
+  pub later : List Placed
+  pub steps : SectorsFrom t m q first (sector ∷ later)
+
+pub first-left : (t m : List ℕ) (q : ℕ) (first : Bool) → Left t m q first → q < length t → FirstLeft t m q first
+first-left t m q first u l =
+    let z = some-left t m q first (u .sectors) (u .steps) (omega (arith, u .cells-length)) in
+    record { sector = z .0; later = z .1 .0; steps = subst (SectorsFrom t m q first) (z .1 .1) (u .steps) }
+
+-- The sectors that are left behind it.
+pub later-left : (t m : List ℕ) (q : ℕ) (first : Bool) → Left t m q first → q < length t → (s : SectorAt) → asStepped s ≡ steppedAt first q (cells t m) → Left t m (s .next) false
+later-left t m q first u l s e =
+    let v = step-at t m q first (u .sectors) s (u .steps) (omega (arith, u .cells-length)) e in
+    record { sectors = v .later; steps = v .rest; cells-length = u .cells-length; length-most = u .length-most }
+
+-- The sectors from the found one on.
+pub found-left : (t m : List ℕ) (start q : ℕ) (s : ℕ) (r : Readable t m start) → SectorsFrom t m q (eqb q start) (fromNumber s (r .accepted .sectors)) → Left t m q (eqb q start)
+found-left t m start q s r f =
+    let u = readable-left t m start r in
+    record { sectors = fromNumber s (r .accepted .sectors); steps = f; cells-length = u .cells-length; length-most = u .length-most }
+
+-- The found one itself.
+pub record FoundAt (t m : List ℕ) (start q s : ℕ) (r : Readable t m start) : Type 0 where
+  pub sector : Placed
+  pub later : List Placed
+  pub split : fromNumber s (r .accepted .sectors) ≡ sector ∷ later
+  pub steps : SectorsFrom t m q (eqb q start) (sector ∷ later)
+  pub place-is : sector .place ≡ q
+
+pub found-at : (t m : List ℕ) (start q s : ℕ) (r : Readable t m start) → SectorsFrom t m q (eqb q start) (fromNumber s (r .accepted .sectors)) → q < length t → FoundAt t m start q s r
+found-at t m start q s r f l =
+    let u = readable-left t m start r in
+    let z = some-left t m q (eqb q start) (fromNumber s (r .accepted .sectors)) f (omega (arith, u .cells-length)) in
+    let g : SectorsFrom t m q (eqb q start) (z .0 ∷ z .1 .0) = subst (SectorsFrom t m q (eqb q start)) (z .1 .1) f in
+    record { sector = z .0; later = z .1 .0; split = z .1 .1; steps = g; place-is = g .0 .place-is }
+
+-- None is found where the search ends at index.
+pub found-none : (t m : List ℕ) (start q s : ℕ) (r : Readable t m start) → SectorsFrom t m q (eqb q start) (fromNumber s (r .accepted .sectors)) → length t ≤ q → fromNumber s (r .accepted .sectors) ≡ []
+found-none t m start q s r f l =
+    let u = readable-left t m start r in
+    steps-end t m q (eqb q start) (fromNumber s (r .accepted .sectors)) f (omega (arith, u .cells-length))
+
+-- The bytes of the first n cells of a track, and their marks.
+pub bytes-front : (n : ℕ) (t m : List ℕ) → length m ≡ length t → unmarked t ≡ true → bytesOf (take n (cells t m)) ≡ take n t
+unfolding bytesOf
+bytes-front n t m e u = sym (take-map (λ (x : ℕ). x % 256) n (cells t m)) ∙ ap (take n) (bytes-cells t m e u)
+
+pub marks-front : (n : ℕ) (t m : List ℕ) → length m ≡ length t → unmarked t ≡ true → marksOf (take n (cells t m)) ≡ take n m
+unfolding marksOf
+marks-front n t m e u = sym (take-map (λ (x : ℕ). x / 256) n (cells t m)) ∙ ap (take n) (marks-cells t m e u)
+
+-- The sector x stands at place q, with the sectors xs behind it, and s is what was read there.
+module _ (t m : List ℕ) (q : ℕ) (first : Bool) (x : Placed) (xs : List Placed) (f : SectorsFrom t m q first (x ∷ xs)) (s : SectorAt)
+    (e : asStepped s ≡ steppedAt first q (cells t m)) where
+  -- The later ones start where the next span does.
+  pub later-steps : SectorsFrom t m (s .next) false xs
+  later-steps =
+      let n : s .next ≡ q + length (x .span) = ap (λ (z : Stepped). z .next) e ∙ f .0 .next-is in
+      subst (λ (p : ℕ). SectorsFrom t m p false xs) (sym n) (f .1)
+
+  module _ (key body : List ℕ) where
+    abbrev new : Sector
+    new = withContent key body (x .sector)
+
+    -- What it takes with the new key and data, and its gap.
+    pub size-new : length (writtenSector new) ≡ sectorSize first (length key) (length body)
+    unfolding withContent
+    size-new = sector-length new ∙ ap (λ (b : Bool). sectorSize b (length key) (length body)) (f .0 .first-is)
+
+    pub gap-new : gapAfter gapOne new ≡ gapOne (length key) (length body)
+    unfolding gapAfter withContent
+    gap-new = refl
+
+    -- The end, summed from its own block on.
+    pub end-new : (end gap r : ℕ) → end ≡ q + sectorSize first (length key) (length body) → gap ≡ gapOne (length key) (length body)
+        → r ≡ farthest end gap xs → r ≡ correctedEnd q key body x xs
+    unfolding correctedEnd
+    end-new end gap r n g k =
+        k ∙ ap₂ (λ (i j : ℕ). farthest i j xs) (n ∙ ap (λ (i : ℕ). q + i) (sym size-new)) (g ∙ sym gap-new) ∙ sym (farthest-from q new xs)
+
+    -- The sector that is written.
+    pub content-made : (a : AddressCode) → asAddress a ≡ addressAt first q (cells t m) → sectorFrom first (s .flag) (a .cylinder) (a .head) (s .number) key body ≡ new
+    unfolding withContent
+    content-made a ad =
+        let h : asAddress a ≡ x .sector .address = ad ∙ f .0 .address-is in
+        let fl : s .flag ≡ x .sector .flag = ap (λ (z : Stepped). z .flag) e ∙ f .0 .flag-is in
+        let nu : s .number ≡ x .sector .number = ap (λ (z : Stepped). z .number) e ∙ f .0 .number-is in
+        λ i. record {
+          first = sym (f .0 .first-is) i;
+          flag = fl i;
+          address = h i;
+          number = nu i;
+          keyBytes = key;
+          dataBytes = body;
+        }
+
+    module _ (l to : ℕ) (g : to ≡ pick (s .last) l (q + sectorSize first (length key) (length body) + gapOne (length key) (length body)))
+        (room : correctedEnd q key body x xs ≤ l) where
+      end-made : to ≡ spanEnd l q new (sectorsOf xs)
+      end-made =
+          let last : s .last ≡ none (sectorsOf xs) = ap (λ (z : Stepped). z .last) e ∙ f .0 .last-is ∙ none-sectors xs in
+          g ∙ ap (λ (b : Bool). pick b l (q + sectorSize first (length key) (length body) + gapOne (length key) (length body))) last
+          ∙ ap₂ (λ (i j : ℕ). pick (none (sectorsOf xs)) l (q + i + j)) (sym size-new) (sym gap-new)
+
+      split : (q + length (writtenSector new) ≤ to) × (to ≤ l) × RoomFor l to xs
+      unfolding correctedEnd
+      split = room-split l q to new xs end-made room
+
+      -- There is room for the sector and those behind it.
+      pub content-room : (q + sectorSize first (length key) (length body) ≤ to) × (to ≤ l) × RoomFor l to xs
+      content-room = (omega (arith, split .0, size-new), split .1, split .2)
+
+      module _ (a : AddressCode) (ad : asAddress a ≡ addressAt first q (cells t m)) (kept old new' last : List ℕ)
+          (ql : q ≤ length new') (qk : length kept ≡ q) (over : new' ≡ laidOver kept old) (next : List ℕ) where
+        -- The bytes of the new track: the kept ones, the sector, and those behind it.
+        pub content-bytes : next ≡ laidAt q (bytesOf (filledSpan (to - q) (sectorFrom first (s .flag) (a .cylinder) (a .head) (s .number) key body))) new'
+            → last ≡ take to next ++ bytesOf (laterCells (l - to) xs) → last ≡ kept ++ bytesOf (correctedCells l q key body x xs)
+        unfolding correctedCells
+        content-bytes n z =
+            z ∙ bytes-more l q to new (sectorsOf xs) end-made (split .0) new' next _ ql
+            (n ∙ ap (λ (w : Sector). laidAt q (bytesOf (filledSpan (to - q) w)) new') (content-made a ad)) refl
+            ∙ ap (λ (w : List ℕ). w ++ bytesOf (correctedCells l q key body x xs)) (ap (take q) over ∙ take-over q kept old qk)
+
+        -- And the marks.
+        pub content-marks : next ≡ laidAt q (marksOf (filledSpan (to - q) (sectorFrom first (s .flag) (a .cylinder) (a .head) (s .number) key body))) new'
+            → last ≡ take to next ++ marksOf (laterCells (l - to) xs) → last ≡ kept ++ marksOf (correctedCells l q key body x xs)
+        unfolding correctedCells
+        content-marks n z =
+            z ∙ marks-more l q to new (sectorsOf xs) end-made (split .0) new' next _ ql
+            (n ∙ ap (λ (w : Sector). laidAt q (marksOf (filledSpan (to - q) w)) new') (content-made a ad)) refl
+            ∙ ap (λ (w : List ℕ). w ++ marksOf (correctedCells l q key body x xs)) (ap (take q) over ∙ take-over q kept old qk)
+
+-- A front that is kept and cells behind it, as bytes and as marks.
+pub kept-bytes : (q : ℕ) (t m W X T : List ℕ) → length m ≡ length t → unmarked t ≡ true → W ≡ X → T ≡ take q t ++ bytesOf W → T ≡ bytesOf (take q (cells t m) ++ X)
+kept-bytes q t m W X T e u z h =
+    h ∙ ap₂ (λ (a b : List ℕ). a ++ bytesOf b) (sym (bytes-front q t m e u)) z ∙ sym (bytes-append (take q (cells t m)) X)
+
+pub kept-marks : (q : ℕ) (t m W X M : List ℕ) → length m ≡ length t → unmarked t ≡ true → W ≡ X → M ≡ take q m ++ marksOf W → M ≡ marksOf (take q (cells t m) ++ X)
+kept-marks q t m W X M e u z h =
+    h ∙ ap₂ (λ (a b : List ℕ). a ++ marksOf b) (sym (marks-front q t m e u)) z ∙ sym (marks-append (take q (cells t m)) X)
+
+-- Correct on an accepted track, by its tests in their order.
+module _ (t m : List ℕ) (start : ℕ) (r : Readable t m start) (s : ℕ) (key body : List ℕ) where
+  abbrev c : List ℕ
+  c = cells t m
+
+  judged : acceptCells c ≡ good (r .accepted)
+  judged = accepted-pair t m (r .accepted) (r .is-accepted) .1
+
+  -- 14 where a wanted field is out of rule.
+  pub correct-wanted : contentRight key body ≡ false → asPair (correctCells gapOne c s key body) ≡ refused wantedWrong
+  unfolding correctCells asPair
+  correct-wanted e = rw (judged, e)
+
+  module _ (right : contentRight key body ≡ true) where
+    -- 12 where no sector carries S.
+    pub correct-missing : fromNumber s (r .accepted .sectors) ≡ [] → asPair (correctCells gapOne c s key body) ≡ refused sectorMissing
+    unfolding correctCells rewrittenFrom asPair
+    correct-missing e = rw (judged, right, e)
+
+    module _ (x : Placed) (xs : List Placed) (e : fromNumber s (r .accepted .sectors) ≡ x ∷ xs) (q : ℕ) (at : x .place ≡ q) (within : q ≤ length c) where
+      need : length (take (x .place) c) + reach gapOne (withContent key body (x .sector) ∷ sectorsOf xs) + 13 ≡ correctedEnd q key body x xs + 13
+      unfolding correctedEnd
+      need = ap (λ (n : ℕ). n + reach gapOne (withContent key body (x .sector) ∷ sectorsOf xs) + 13) (length-take-le (x .place) c (omega arith) ∙ at)
+
+      -- 15 where the last block would end later than 13 bytes before index.
+      pub correct-short : length c < correctedEnd q key body x xs + 13 → asPair (correctCells gapOne c s key body) ≡ refused roomMissing
+      unfolding correctCells rewrittenFrom writtenBehind leastGap asPair
+      correct-short h = rw (judged, right, e, need, lt-leb (correctedEnd q key body x xs + 13) (length c) h)
+
+      -- Else the new track.
+      pub correct-done : correctedEnd q key body x xs + 13 ≤ length c
+          → asPair (correctCells gapOne c s key body) ≡ good (pairOf (take q c ++ correctedCells (length c) q key body x xs))
+      unfolding correctCells rewrittenFrom writtenBehind leastGap asPair correctedCells
+      correct-done h =
+          let z : length (take q c) ≡ q = length-take-le q c within in
+          rw (judged, right, e, need, le-leb (correctedEnd q key body x xs + 13) (length c) h, at, z)

@@ -1,0 +1,133 @@
+-- Where the last block ends, summed sector by sector.
+use mathlib.Core.Path.{_≡_, refl, sym, ap, ap₂, _∙_, subst}
+use Prim.Native.Nat.{ℕ, _+_, _*_, _≤_, _<_}
+use native.Mathlib.Omega.{arith}
+use mathlib.Core.Bool.{Bool, true, false}
+use mathlib.Core.List.{List, [], _∷_}
+use lib.ListN.{length}
+use Rattle.format.specs.Lent.{cells}
+use Rattle.format.specs.Block.{keySize, dataSize}
+use Rattle.format.specs.Sector.{Sector, openingLength}
+use Rattle.format.specs.Accept.{Placed}
+use Rattle.format.specs.Written.{gapOne, gapAfter, writtenSector, reach}
+use Rattle.format.specs.Correct.{sectorsOf}
+use Rattle.format.proofs.Sizes.{key-size-least, data-size-least}
+use Rattle.encode.specs.Room.{sectorSize}
+use Rattle.encode.proofs.Sectors.{sector-length}
+use Rattle.sectors.specs.declared.SectorAt.{SectorAt}
+use Rattle.sectors.specs.Stepped.{steppedAt, asStepped}
+use Rattle.sectors.proofs.Rest.{opening-least}
+use Rattle.sectors.proofs.From.{SectorsFrom, Step, step-at, steps-end}
+use Rattle.writer.specs.Left.{Left, farthest}
+
+-- A sector's block ends where its written form does, and the others follow its gap.
+pub farthest-from : (q : ℕ) (s : Sector) (xs : List Placed)
+    → q + reach gapOne (s ∷ sectorsOf xs) ≡ farthest (q + length (writtenSector s)) (gapAfter gapOne s) xs
+unfolding reach farthest
+farthest-from q s [] = omega arith
+farthest-from q s (x ∷ xs) = omega arith
+
+-- One sector more.
+pub farthest-step : (end gap : ℕ) (xs : List Placed) (x : Placed) (later : List Placed) → xs ≡ x ∷ later
+    → farthest end gap xs ≡ farthest (end + gap + length (writtenSector (x .sector))) (gapAfter gapOne (x .sector)) later
+unfolding farthest
+farthest-step end gap xs x later e =
+    ap (farthest end gap) e ∙ omega (arith, farthest-from (end + gap) (x .sector) later)
+
+-- No sector more.
+pub farthest-none : (end gap : ℕ) (xs : List Placed) → xs ≡ [] → farthest end gap xs ≡ end
+unfolding farthest
+farthest-none end gap xs e = ap (farthest end gap) e ∙ omega arith
+
+gap-below : (b : Bool) (kl dl : ℕ) → gapOne kl dl ≤ 2 * sectorSize b kl dl
+unfolding gapOne sectorSize
+gap-below b kl dl = omega (arith, opening-least b, key-size-least kl, data-size-least dl)
+
+-- What a sector that is stepped over takes, and its gap.
+module _ (t m : List ℕ) (p : ℕ) (first : Bool) (xs : List Placed) (s : SectorAt) (v : Step t m p first xs s) where
+  pub size-stepped : length (writtenSector (v .x .sector)) ≡ sectorSize first (s .«key_length») (s .«data_length»)
+  size-stepped =
+      sector-length (v .x .sector)
+      ∙ ap (λ (b : Bool). sectorSize b (length (v .x .sector .keyBytes)) (length (v .x .sector .dataBytes))) (v .first-is)
+      ∙ ap₂ (sectorSize first) (sym (v .key-length-is)) (sym (v .data-length-is))
+
+  pub gap-stepped : gapAfter gapOne (v .x .sector) ≡ gapOne (s .«key_length») (s .«data_length»)
+  unfolding gapAfter
+  gap-stepped = ap₂ gapOne (sym (v .key-length-is)) (sym (v .data-length-is))
+
+  -- KL and DL fit their bytes.
+  pub lengths-stepped : (s .«key_length» ≤ 255) × (s .«data_length» ≤ 65535)
+  lengths-stepped = (omega (arith, v .key-length-is, v .fits .key-fits), omega (arith, v .data-length-is, v .fits .data-fits))
+
+  -- Its block ends where it takes it.
+  pub end-stepped : p + sectorSize first (s .«key_length») (s .«data_length») ≡ s .end
+  unfolding sectorSize
+  end-stepped =
+      let e : s .end ≡ p + openingLength first + 23 + keySize (s .«key_length») + dataSize (s .«data_length») =
+      v .end-is ∙ v .stepping .end-size
+      ∙ ap₂ (λ (k d : ℕ). p + openingLength first + 23 + keySize k + dataSize d) (sym (v .key-length-is)) (sym (v .data-length-is)) in
+      omega arith
+
+  -- It takes what it took, and its gap less than twice that.
+  pub grows-stepped : sectorSize first (s .«key_length») (s .«data_length») + gapOne (s .«key_length») (s .«data_length») + 3 * p ≤ 3 * s .next
+  grows-stepped = omega (arith, end-stepped, v .end-inside, gap-below first (s .«key_length») (s .«data_length»))
+
+-- The sectors from place p on, with which the end is the goal.
+pub record Ahead (t m : List ℕ) (p end gap goal : ℕ) : Type 0 where
+  pub left : List Placed
+  pub steps : SectorsFrom t m p false left
+  pub same : farthest end gap left ≡ goal
+
+-- The sum has come to place p.
+abbrev pub Summing : List ℕ → List ℕ → ℕ → ℕ → ℕ → ℕ → ℕ → ℕ → Type 0
+Summing t m p₀ end₀ gap₀ p end gap =
+    (end + gap ≤ 100000 + 3 * p) × ((all : List Placed) → SectorsFrom t m p₀ false all → Ahead t m p end gap (farthest end₀ gap₀ all))
+
+-- It starts so.
+pub sum-start : (t m : List ℕ) (p end gap : ℕ) → end + gap ≤ 100000 → Summing t m p end gap p end gap
+sum-start t m p end gap h = (omega arith, λ all f. record { left = all; steps = f; same = refl })
+
+module _ (t m : List ℕ) (p₀ end₀ gap₀ p end gap : ℕ) (u : Left t m p₀ false) (i : Summing t m p₀ end₀ gap₀ p end gap) where
+  -- At index it is done.
+  pub sum-end : length t ≤ p → (all : List Placed) → SectorsFrom t m p₀ false all → end ≡ farthest end₀ gap₀ all
+  sum-end l all f =
+      let r = i .1 all f in
+      let z : r .left ≡ [] = steps-end t m p false (r .left) (r .steps) (omega (arith, u .cells-length)) in
+      sym (farthest-none end gap (r .left) z) ∙ r .same
+
+  module _ (l : p < length t) (x : SectorAt) (e : asStepped x ≡ steppedAt false p (cells t m)) where
+    pub sum-step : (all : List Placed) (f : SectorsFrom t m p₀ false all) → Step t m p false (i .1 all f .left) x
+    sum-step all f = let r = i .1 all f in step-at t m p false (r .left) x (r .steps) (omega (arith, u .cells-length)) e
+
+    -- The step that the requirement shows.
+    abbrev pub sumStep : Step t m p false (i .1 (u .sectors) (u .steps) .left) x
+    sumStep = sum-step (u .sectors) (u .steps)
+
+    -- Each step goes on, and not beyond index.
+    pub sum-onward : (p + 49 ≤ x .next) × (x .next ≤ length t)
+    sum-onward = (sumStep .onward, omega (arith, sumStep .next-inside, u .cells-length))
+
+    pub sum-lengths : (x .«key_length» ≤ 255) × (x .«data_length» ≤ 65535)
+    sum-lengths = lengths-stepped t m p false (i .1 (u .sectors) (u .steps) .left) x sumStep
+
+    pub sum-bound : end + gap + sectorSize false (x .«key_length») (x .«data_length») + gapOne (x .«key_length») (x .«data_length») ≤ 100000 + 3 * x .next
+    sum-bound = omega (arith, i .0, grows-stepped t m p false (i .1 (u .sectors) (u .steps) .left) x sumStep)
+
+    -- The sum with the sector at p.
+    pub sum-next : (n g : ℕ) → n ≡ sectorSize false (x .«key_length») (x .«data_length») → g ≡ gapOne (x .«key_length») (x .«data_length»)
+        → Summing t m p₀ end₀ gap₀ (x .next) (end + gap + n) g
+    sum-next n g en eg = (
+      omega (arith, en, eg, sum-bound),
+      λ all f.
+          let r = i .1 all f in
+          let v = sum-step all f in
+          let size : n ≡ length (writtenSector (v .x .sector)) = en ∙ sym (size-stepped t m p false (r .left) x v) in
+          let gaps : g ≡ gapAfter gapOne (v .x .sector) = eg ∙ sym (gap-stepped t m p false (r .left) x v) in
+          record {
+            left = v .later;
+            steps = v .rest;
+            same =
+                ap₂ (λ (k h : ℕ). farthest (end + gap + k) h (v .later)) size gaps
+                ∙ sym (farthest-step end gap (r .left) (v .x) (v .later) (v .split)) ∙ r .same;
+          },
+    )

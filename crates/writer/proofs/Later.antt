@@ -1,0 +1,219 @@
+-- Sectors written one behind the other from a place of the new track on.
+use mathlib.Core.Path.{_≡_, refl, sym, ap, ap₂, _∙_, subst}
+use Prim.Native.Nat.{ℕ, _+_, _-_, _≤_, _<_}
+use native.Mathlib.Omega.{arith}
+use mathlib.Core.Bool.{Bool, true, false}
+use mathlib.Core.List.{List, [], _∷_, _++_, append-assoc, append-nil}
+use lib.ListN.{length, take, drop, replicate, length-drop}
+use lib.Seq.{take-length, length-take-le}
+use Rattle.crc.specs.Check.{pick}
+use Rattle.format.specs.Lent.{cells, bytesOf, marksOf}
+use Rattle.format.specs.Address.{Address}
+use Rattle.format.specs.Span.{joined, none}
+use Rattle.format.specs.Sector.{Sector}
+use Rattle.format.specs.Accept.{Placed}
+use Rattle.format.specs.Written.{gapOne, gapAfter, writtenSector, reach, writtenSpans}
+use Rattle.format.specs.Correct.{sectorsOf}
+use Rattle.format.proofs.Pairs.{length-bytes, length-marks}
+use Rattle.sector.specs.declared.fields.Address.{Address as AddressCode}
+use Rattle.sector.specs.As.{asAddress}
+use Rattle.encode.specs.Laid.{laidAt}
+use Rattle.encode.specs.Room.{sectorFrom, sectorSize}
+use Rattle.encode.proofs.Cells.{bytes-append, marks-append}
+use Rattle.sectors.specs.declared.SectorAt.{SectorAt}
+use Rattle.sectors.specs.Stepped.{steppedAt, addressAt, asStepped}
+use Rattle.sectors.proofs.From.{SectorsFrom, Step, step-at, steps-end}
+use Rattle.writer.specs.After.{filledSpan}
+use Rattle.writer.specs.Left.{Left, LeftRoom, RoomFor, laterCells}
+use Rattle.writer.proofs.Filled.{filled-length, take-laid}
+use Rattle.writer.proofs.Farthest.{size-stepped, gap-stepped, lengths-stepped}
+
+-- The place up to which a sector written at place `at` and its gap reach, where the sectors ss follow.
+abbrev pub spanEnd : ℕ → ℕ → Sector → List Sector → ℕ
+spanEnd l at s ss = pick (none ss) l (at + length (writtenSector s) + gapAfter gapOne s)
+
+-- The first of the written sectors by itself.
+pub later-split : (l at to : ℕ) (s : Sector) (ss : List Sector) → to ≡ spanEnd l at s ss
+    → joined (writtenSpans gapOne (l - at) (s ∷ ss)) ≡ filledSpan (to - at) s ++ joined (writtenSpans gapOne (l - to) ss)
+unfolding writtenSpans filledSpan
+later-split l at to s [] e = ap (λ (k : ℕ). (writtenSector s ++ replicate (k - at - length (writtenSector s)) 0xFF) ++ []) (sym e)
+later-split l at to s (r ∷ rs) e =
+    let w : List ℕ = writtenSector s in
+    let g : gapAfter gapOne s ≡ to - at - length w = omega arith in
+    let n : l - at - (length w + gapAfter gapOne s) ≡ l - to = omega arith in
+    ap₂ (λ (i j : ℕ). (w ++ replicate i 0xFF) ++ joined (writtenSpans gapOne j (r ∷ rs))) g n
+
+pub none-sectors : (xs : List Placed) → none xs ≡ none (sectorsOf xs)
+none-sectors [] = refl
+none-sectors (x ∷ xs) = refl
+
+-- What room for a sector and those behind it says.
+pub room-split : (l at to : ℕ) (s : Sector) (xs : List Placed) → to ≡ spanEnd l at s (sectorsOf xs) → at + reach gapOne (s ∷ sectorsOf xs) ≤ l
+    → (at + length (writtenSector s) ≤ to) × (to ≤ l) × RoomFor l to xs
+unfolding reach
+room-split l at to s [] e h = (omega arith, omega arith, e)
+room-split l at to s (y ∷ ys) e h = (omega arith, omega arith, omega arith)
+
+-- With room, a place lies on the track.
+pub room-within : (l at : ℕ) (xs : List Placed) → RoomFor l at xs → at ≤ l
+room-within l at [] h = omega arith
+room-within l at (x ∷ xs) h = omega arith
+
+-- A buffer that is written up to place `at`, where the rest of the track is F.
+module _ (l at to : ℕ) (s : Sector) (ss : List Sector) (e : to ≡ spanEnd l at s ss) (long : at + length (writtenSector s) ≤ to) (old new F : List ℕ) (fits : at ≤ length old) where
+  -- One sector more, in bytes.
+  pub bytes-more : new ≡ laidAt at (bytesOf (filledSpan (to - at) s)) old → take at old ++ bytesOf (joined (writtenSpans gapOne (l - at) (s ∷ ss))) ≡ F
+      → take to new ++ bytesOf (joined (writtenSpans gapOne (l - to) ss)) ≡ F
+  bytes-more q f =
+      let w : List ℕ = filledSpan (to - at) s in
+      let rest : List ℕ = joined (writtenSpans gapOne (l - to) ss) in
+      let n : to ≡ at + length (bytesOf w) = omega (arith, length-bytes w, filled-length (to - at) s (omega arith)) in
+      ap (λ (z : List ℕ). z ++ bytesOf rest) (ap (take to) q ∙ take-laid at to (bytesOf w) old fits n)
+      ∙ append-assoc (take at old) (bytesOf w) (bytesOf rest)
+      ∙ ap (λ (z : List ℕ). take at old ++ z) (sym (bytes-append w rest) ∙ ap bytesOf (sym (later-split l at to s ss e)))
+      ∙ f
+
+  -- In marks.
+  pub marks-more : new ≡ laidAt at (marksOf (filledSpan (to - at) s)) old → take at old ++ marksOf (joined (writtenSpans gapOne (l - at) (s ∷ ss))) ≡ F
+      → take to new ++ marksOf (joined (writtenSpans gapOne (l - to) ss)) ≡ F
+  marks-more q f =
+      let w : List ℕ = filledSpan (to - at) s in
+      let rest : List ℕ = joined (writtenSpans gapOne (l - to) ss) in
+      let n : to ≡ at + length (marksOf w) = omega (arith, length-marks w, filled-length (to - at) s (omega arith)) in
+      ap (λ (z : List ℕ). z ++ marksOf rest) (ap (take to) q ∙ take-laid at to (marksOf w) old fits n)
+      ∙ append-assoc (take at old) (marksOf w) (marksOf rest)
+      ∙ ap (λ (z : List ℕ). take at old ++ z) (sym (marks-append w rest) ∙ ap marksOf (sym (later-split l at to s ss e)))
+      ∙ f
+
+-- The sectors from place p of the old track on are to be written from place `at` of the new one on, whose bytes are F in the end and its marks G.
+pub record Going (t m : List ℕ) (p at : ℕ) (nt nm F G : List ℕ) : Type 0 where
+  pub left : List Placed
+  pub steps : SectorsFrom t m p false left
+  pub room : RoomFor (length t) at left
+  pub bytes : take at nt ++ bytesOf (laterCells (length t - at) left) ≡ F
+  pub marks : take at nm ++ marksOf (laterCells (length t - at) left) ≡ G
+
+-- A written sector is the one that was stepped over.
+pub sector-made : (t m : List ℕ) (p : ℕ) (first : Bool) (xs : List Placed) (s : SectorAt) (v : Step t m p first xs s) (a : AddressCode) (key body : List ℕ)
+    → asAddress a ≡ addressAt first p (cells t m) → key ≡ v .x .sector .keyBytes → body ≡ v .x .sector .dataBytes
+    → sectorFrom first (s .flag) (a .cylinder) (a .head) (s .number) key body ≡ v .x .sector
+sector-made t m p first xs s v a key body e k d =
+    let ad : asAddress a ≡ v .x .sector .address = e ∙ v .address-is in
+    λ i. record {
+      first = sym (v .first-is) i;
+      flag = v .flag-is i;
+      address = ad i;
+      number = v .number-is i;
+      keyBytes = k i;
+      dataBytes = d i;
+    }
+
+-- It starts so, where there is room for the sectors xs.
+pub going-start : (t m : List ℕ) (p at : ℕ) (nt nm : List ℕ) (xs : List Placed) → SectorsFrom t m p false xs → RoomFor (length t) at xs
+    → Going t m p at nt nm (take at nt ++ bytesOf (laterCells (length t - at) xs)) (take at nm ++ marksOf (laterCells (length t - at) xs))
+going-start t m p at nt nm xs s r = record { left = xs; steps = s; room = r; bytes = refl; marks = refl }
+
+module _ (t m : List ℕ) (p at : ℕ) (nt nm F G : List ℕ) (i : Going t m p at nt nm F G) (whole : length (cells t m) ≡ length t) where
+  -- The place lies on the new track.
+  pub going-within : at ≤ length t
+  going-within = room-within (length t) at (i .left) (i .room)
+
+  -- At the end of the old track the new one is whole.
+  pub going-end : length t ≤ p → length nt ≡ length t → length nm ≡ length t → (nt ≡ F) × (nm ≡ G)
+  unfolding writtenSpans bytesOf marksOf
+  going-end l nt-long nm-long =
+      let z : i .left ≡ [] = steps-end t m p false (i .left) (i .steps) (omega (arith, whole)) in
+      let end : at ≡ length t = subst (RoomFor (length t) at) z (i .room) in
+      let all : (ns : List ℕ) → length ns ≡ length t → take at ns ≡ ns = λ ns k. ap (λ (n : ℕ). take n ns) (end ∙ sym k) ∙ take-length ns in (
+        sym (all nt nt-long) ∙ sym (append-nil (take at nt)) ∙ ap (λ (xs : List Placed). take at nt ++ bytesOf (laterCells (length t - at) xs)) (sym z) ∙ i .bytes,
+        sym (all nm nm-long) ∙ sym (append-nil (take at nm)) ∙ ap (λ (xs : List Placed). take at nm ++ marksOf (laterCells (length t - at) xs)) (sym z) ∙ i .marks,
+      )
+
+  module _ (l : p < length t) (x : SectorAt) (e : asStepped x ≡ steppedAt false p (cells t m)) where
+    -- The step over the sector at p.
+    pub going-step : Step t m p false (i .left) x
+    going-step = step-at t m p false (i .left) x (i .steps) (omega (arith, whole)) e
+
+    pub going-lengths : (x .«key_length» ≤ 255) × (x .«data_length» ≤ 65535)
+    going-lengths = lengths-stepped t m p false (i .left) x going-step
+
+    -- The key and the data lie on the old track.
+    pub going-parts : (x .«key_place» + x .«key_length» ≤ length t) × (x .«data_place» + x .«data_length» ≤ length t)
+    going-parts =
+        let v = going-step in
+        (omega (arith, v .key-inside, v .data-inside, v .end-inside, v .next-inside, whole), omega (arith, v .data-inside, v .end-inside, v .next-inside, whole))
+
+    -- Each step goes on, and not beyond index.
+    pub going-onward : (p + 49 ≤ x .next) × (x .next ≤ length t)
+    going-onward = let v = going-step in (v .onward, omega (arith, v .next-inside, whole))
+
+    module _ (to : ℕ) (f : to ≡ pick (x .last) (length t) (at + sectorSize false (x .«key_length») (x .«data_length») + gapOne (x .«key_length») (x .«data_length»))) where
+      end-made : to ≡ spanEnd (length t) at (going-step .x .sector) (sectorsOf (going-step .later))
+      end-made =
+          let v = going-step in
+          let size = size-stepped t m p false (i .left) x v in
+          let gap = gap-stepped t m p false (i .left) x v in
+          f ∙ ap (λ (b : Bool). pick b (length t) (at + sectorSize false (x .«key_length») (x .«data_length») + gapOne (x .«key_length») (x .«data_length»))) (v .last-is ∙ none-sectors (v .later))
+          ∙ ap₂ (λ (n g : ℕ). pick (none (sectorsOf (v .later))) (length t) (at + n + g)) (sym size) (sym gap)
+
+      split-room : (at + length (writtenSector (going-step .x .sector)) ≤ to) × (to ≤ length t) × RoomFor (length t) to (going-step .later)
+      split-room =
+          let v = going-step in
+          room-split (length t) at to (v .x .sector) (v .later) end-made (subst (RoomFor (length t) at) (v .split) (i .room))
+
+      -- There is room for the sector.
+      pub going-room : (at + sectorSize false (x .«key_length») (x .«data_length») ≤ to) × (to ≤ length t)
+      going-room = let r = split-room in (omega (arith, r .0, size-stepped t m p false (i .left) x going-step), r .1)
+
+      -- The sector is written.
+      pub going-next : (a : AddressCode) (key body nt' nm' : List ℕ) → asAddress a ≡ addressAt false p (cells t m)
+          → key ≡ take (x .«key_length») (drop (x .«key_place») t) → body ≡ take (x .«data_length») (drop (x .«data_place») t)
+          → length nt ≡ length t → length nm ≡ length t
+          → nt' ≡ laidAt at (bytesOf (filledSpan (to - at) (sectorFrom false (x .flag) (a .cylinder) (a .head) (x .number) key body))) nt
+          → nm' ≡ laidAt at (marksOf (filledSpan (to - at) (sectorFrom false (x .flag) (a .cylinder) (a .head) (x .number) key body))) nm
+          → Going t m (x .next) to nt' nm' F G
+      going-next a key body nt' nm' ad k d nt-long nm-long qt qm =
+          let v = going-step in
+          let r = split-room in
+          let s : sectorFrom false (x .flag) (a .cylinder) (a .head) (x .number) key body ≡ v .x .sector =
+          sector-made t m p false (i .left) x v a key body ad (k ∙ v .key-bytes) (d ∙ v .data-bytes) in
+          let ss : List Sector = sectorsOf (v .later) in
+          let within : at ≤ length t = going-within in
+          record {
+            left = v .later;
+            steps = v .rest;
+            room = r .2;
+            bytes =
+                bytes-more (length t) at to (v .x .sector) ss end-made (r .0) nt nt' F (omega arith)
+                (qt ∙ ap (λ (z : Sector). laidAt at (bytesOf (filledSpan (to - at) z)) nt) s)
+                (ap (λ (xs : List Placed). take at nt ++ bytesOf (laterCells (length t - at) xs)) (sym (v .split)) ∙ i .bytes);
+            marks =
+                marks-more (length t) at to (v .x .sector) ss end-made (r .0) nm nm' G (omega arith)
+                (qm ∙ ap (λ (z : Sector). laidAt at (marksOf (filledSpan (to - at) z)) nm) s)
+                (ap (λ (xs : List Placed). take at nm ++ marksOf (laterCells (length t - at) xs)) (sym (v .split)) ∙ i .marks);
+          }
+
+-- The n bytes that are lent from place a on.
+pub cut-is : (a n : ℕ) (s : List ℕ) → take (a + n - a) (drop a s) ≡ take n (drop a s)
+cut-is a n s = let e : a + n - a ≡ n = omega arith in ap (λ (k : ℕ). take k (drop a s)) e
+
+-- Their number.
+pub cut-length : (a n : ℕ) (s : List ℕ) → a + n ≤ length s → length (take (a + n - a) (drop a s)) ≡ n
+cut-length a n s h = ap length (cut-is a n s) ∙ length-take-le n (drop a s) (omega (arith, length-drop a s))
+
+-- The writing has come from the places p and `at` to the places p' and `at'`.
+abbrev pub Writing : List ℕ → List ℕ → ℕ → ℕ → List ℕ → List ℕ → ℕ → ℕ → List ℕ → List ℕ → Type 0
+Writing t m p at nt nm p' at' nt' nm' =
+    (length nt' ≡ length t) × (length nm' ≡ length t) × ((F G : List ℕ) → Going t m p at nt nm F G → Going t m p' at' nt' nm' F G)
+
+-- What is to be written then.
+pub writing-now : (t m : List ℕ) (p at : ℕ) (nt nm : List ℕ) (p' at' : ℕ) (nt' nm' : List ℕ) (u : LeftRoom t m p at) → Writing t m p at nt nm p' at' nt' nm'
+    → Going t m p' at' nt' nm' (take at nt ++ bytesOf (laterCells (length t - at) (u .left .sectors))) (take at nm ++ marksOf (laterCells (length t - at) (u .left .sectors)))
+writing-now t m p at nt nm p' at' nt' nm' u w = w .2 _ _ (going-start t m p at nt nm (u .left .sectors) (u .left .steps) (u .room))
+
+-- Such a key and such data ask for the room that their numbers do.
+pub cut-asks : (b : Bool) (at to kl dl l : ℕ) (key body nt nm : List ℕ) → length key ≡ kl → length body ≡ dl → (kl ≤ 255) × (dl ≤ 65535)
+    → (at + sectorSize b kl dl ≤ to) × (to ≤ l) → length nt ≡ l → length nm ≡ l
+    → ((length key ≤ 255) × (length body ≤ 65535)) × ((at + sectorSize b (length key) (length body) ≤ to) × ((to ≤ length nt) × (to ≤ length nm)))
+cut-asks b at to kl dl l key body nt nm k d n r f g =
+    ((omega arith, omega arith), (rw (k, d) (r .0), (omega arith, omega arith)))

@@ -1,0 +1,152 @@
+-- `correct_on` meets its contract: 14, 12 and 15 before anything is written, then the new track.
+use mathlib.Core.Path.{_≡_, sym, ap, _∙_}
+use Prim.Native.Nat.{ℕ, _+_, _-_, _≤_, _<_}
+use native.Mathlib.Omega.{arith}
+use mathlib.Core.Bool.{true, false}
+use mathlib.Core.List.{List, _∷_, _++_}
+use lib.ListN.{length, take}
+use lib.Dec.{eqb}
+use borrow.Author.Needs.{needs}
+use borrow.Author.Tests.{not-true, not-false}
+use Rattle.format.specs.Lent.{cells, unmarked}
+use Rattle.format.specs.Accept.{Placed}
+use Rattle.format.specs.Add.{fromNumber}
+use Rattle.encode.proofs.Cells.{unmarked-bytes}
+use Rattle.sectors.proofs.From.{SectorsFrom}
+use Rattle.writer.specs.Left.{correctedEnd, correctedCells}
+use Rattle.writer.proofs.Outcome.{after-refused, after-good}
+use Rattle.writer.proofs.Filled.{content-bounds}
+use Rattle.writer.proofs.Corrected.{readable-steps, readable-left, readable-lengths, found-left, found-at, found-none, kept-bytes, kept-marks, correct-wanted, correct-missing, correct-short, correct-done}
+use Rattle.writer.proofs.correcting.correct_on.Statement.{statement}
+use Rattle.writer.proofs.correcting.correct_on.Tie as tie
+
+content-right-requires : tie.Need-content-right-requires
+content-right-requires c κs = search needs
+
+wanted-wrong-requires : tie.Need-wanted-wrong-requires
+wanted-wrong-requires c κs = search needs
+
+returns : tie.Need-returns
+returns c =
+    let a = c .before .before .before .before .before .before .before .before .before .args in
+    after-refused _ _ _ (a .new-track .now) (a .new-marks .now)
+    (correct-wanted (a .track .now) (a .marks .now) (a .start) (c .before .before .before .before .before .before .before .before .before .pre .0) (a .s) (a .key .now) (a .body .now) (sym (c .before .before .content-right .ensures) ∙ not-true _ (c .before .if1 .taken)))
+    (c .wanted-wrong .ensures)
+
+place-of-requires : tie.Need-place-of-requires
+place-of-requires c κs = let a = c .before .before .before .before .before .before .before .before .args in readable-left (a .track .now) (a .marks .now) (a .start) (c .before .before .before .before .before .before .before .before .pre .0)
+
+sector-missing-requires : tie.Need-sector-missing-requires
+sector-missing-requires c κs = search needs
+
+returns-2 : tie.Need-returns-2
+returns-2 c =
+    let a = c .before .before .before .before .before .before .before .before .before .before .before .args in
+    let t = a .track .now in
+    let m = a .marks .now in
+    let r = c .before .before .before .before .before .before .before .before .before .before .before .pre .0 in
+    let u = readable-left t m (a .start) r in
+    after-refused _ _ _ (a .new-track .now) (a .new-marks .now)
+    (correct-missing t m (a .start) r (a .s) (a .key .now) (a .body .now) (sym (c .before .before .before .before .content-right .ensures) ∙ not-false _ (c .before .before .before .if1 .left))
+    (found-none t m (a .start) (c .before .before .place-of .result) (a .s) r (c .before .before .place-of .ensures (r .accepted .sectors) (readable-steps t m (a .start) r)) (c .before .if2 .taken)))
+    (c .sector-missing .ensures)
+
+corrected-end-requires : tie.Need-corrected-end-requires
+corrected-end-requires c κs =
+    let a = c .before .before .before .before .before .before .before .before .before .before .args in
+    let t = a .track .now in
+    let m = a .marks .now in
+    let r = c .before .before .before .before .before .before .before .before .before .before .pre .0 in
+    let u = readable-left t m (a .start) r in (
+      found-left t m (a .start) (c .before .place-of .result) (a .s) r (c .before .place-of .ensures (r .accepted .sectors) (readable-steps t m (a .start) r)),
+      (c .if2 .left, content-bounds (a .key .now) (a .body .now) (sym (c .before .before .before .content-right .ensures) ∙ not-false _ (c .before .before .if1 .left))),
+    )
+
+sub-if3 : tie.Need-sub-if3
+sub-if3 c = let a = c .before .before .before .before .before .before .before .before .before .before .before .args in omega (arith, readable-lengths (a .track .now) (a .marks .now) (a .start) (c .before .before .before .before .before .before .before .before .before .before .before .pre .0))
+
+room-missing-requires : tie.Need-room-missing-requires
+room-missing-requires c κs = search needs
+
+returns-3 : tie.Need-returns-3
+returns-3 c =
+    let a = c .before .before .before .before .before .before .before .before .before .before .before .before .before .args in
+    let t = a .track .now in
+    let m = a .marks .now in
+    let r = c .before .before .before .before .before .before .before .before .before .before .before .before .before .pre .0 in
+    let u = readable-left t m (a .start) r in
+    let q = c .before .before .before .before .place-of .result in
+    let z = found-at t m (a .start) q (a .s) r (c .before .before .before .before .place-of .ensures (r .accepted .sectors) (readable-steps t m (a .start) r)) (c .before .before .before .if2 .left) in
+    let end : c .before .before .corrected-end .result ≡ correctedEnd q (a .key .now) (a .body .now) (z .sector) (z .later) = c .before .before .corrected-end .ensures (z .sector) (z .later) (z .steps) in
+    after-refused _ _ _ (a .new-track .now) (a .new-marks .now)
+    (correct-short t m (a .start) r (a .s) (a .key .now) (a .body .now) (sym (c .before .before .before .before .before .before .content-right .ensures) ∙ not-false _ (c .before .before .before .before .before .if1 .left))
+    (z .sector) (z .later) (z .split) q (z .place-is) (omega (arith, c .before .before .before .if2 .left, u .cells-length)) (omega (arith, c .before .if3 .taken, end, u .cells-length)))
+    (c .room-missing .ensures)
+
+write-corrected-requires : tie.Need-write-corrected-requires
+write-corrected-requires c κs =
+    let a = c .before .before .before .before .before .before .before .before .before .before .before .before .before .before .args in
+    let t = a .track .now in
+    let m = a .marks .now in
+    let r = c .before .before .before .before .before .before .before .before .before .before .before .before .before .before .pre .0 in
+    let u = readable-left t m (a .start) r in
+    let q = c .before .before .before .before .before .place-of .result in
+    let k = readable-lengths t m (a .start) r in
+    let room : (x : Placed) (xs : List Placed) → SectorsFrom t m q (eqb q (a .start)) (x ∷ xs) → correctedEnd q (a .key .now) (a .body .now) x xs ≤ length t =
+    λ x xs f. omega (arith, c .before .before .before .corrected-end .ensures x xs f, c .before .before .if3 .left, k .0) in (
+      found-left t m (a .start) q (a .s) r (c .before .before .before .before .before .place-of .ensures (r .accepted .sectors) (readable-steps t m (a .start) r)),
+      (
+        (c .before .before .before .before .if2 .left, room),
+        (content-bounds (a .key .now) (a .body .now) (sym (c .before .before .before .before .before .before .before .content-right .ensures) ∙ not-false _ (c .before .before .before .before .before .before .if1 .left)), (k .1, c .before .before .before .before .before .before .before .before .before .before .before .before .before .before .pre .1 .0, c .before .before .before .before .before .before .before .before .before .before .before .before .before .before .pre .1 .1)),
+      ),
+    )
+
+done-requires : tie.Need-done-requires
+done-requires c κs = search needs
+
+same-length : tie.Need-same-length
+same-length c = search needs
+
+same-length-2 : tie.Need-same-length-2
+same-length-2 c = search needs
+
+returns-4 : tie.Need-returns-4
+returns-4 c =
+    let a = c .before .before .before .before .before .before .before .before .before .before .before .before .before .before .before .before .before .before .before .before .args in
+    let t = a .track .now in
+    let m = a .marks .now in
+    let r = c .before .before .before .before .before .before .before .before .before .before .before .before .before .before .before .before .before .before .before .before .pre .0 in
+    let u = readable-left t m (a .start) r in
+    let q = c .before .before .before .before .before .before .before .before .before .before .before .place-of .result in
+    let k = readable-lengths t m (a .start) r in
+    let wrote = c .before .before .before .before .before .write-corrected in
+    let z = found-at t m (a .start) q (a .s) r (c .before .before .before .before .before .before .before .before .before .before .before .place-of .ensures (r .accepted .sectors) (readable-steps t m (a .start) r)) (c .before .before .before .before .before .before .before .before .before .before .if2 .left) in
+    let end : c .before .before .before .before .before .before .before .before .before .corrected-end .result ≡ correctedEnd q (a .key .now) (a .body .now) (z .sector) (z .later) = c .before .before .before .before .before .before .before .before .before .corrected-end .ensures (z .sector) (z .later) (z .steps) in
+    let W : ℕ → List ℕ = λ l. correctedCells l q (a .key .now) (a .body .now) (z .sector) (z .later) in
+    let bytes : unmarked t ≡ true = unmarked-bytes t (λ i. omega (arith, c .before .before .before .before .before .before .before .before .before .before .before .before .before .before .before .before .before .before .before .shared-slice-known .given i)) in
+    after-good _ _ (take q (cells t m) ++ W (length (cells t m))) (a .new-track .now) (a .new-marks .now) (wrote .last .1 .1 .0) (wrote .last .1 .1 .1 .0)
+    (correct-done t m (a .start) r (a .s) (a .key .now) (a .body .now) (sym (c .before .before .before .before .before .before .before .before .before .before .before .before .before .content-right .ensures) ∙ not-false _ (c .before .before .before .before .before .before .before .before .before .before .before .before .if1 .left))
+    (z .sector) (z .later) (z .split) q (z .place-is) (omega (arith, c .before .before .before .before .before .before .before .before .before .before .if2 .left, u .cells-length)) (omega (arith, c .before .before .before .before .before .before .before .before .if3 .left, end, u .cells-length, k .0)))
+    (c .done .ensures)
+    (kept-bytes q t m (W (length t)) (W (length (cells t m))) (wrote .last .1 .1 .0) (k .1) bytes (ap W (sym (u .cells-length))) (wrote .ensures .0 (z .sector) (z .later) (z .steps)))
+    (kept-marks q t m (W (length t)) (W (length (cells t m))) (wrote .last .1 .1 .1 .0) (k .1) bytes (ap W (sym (u .cells-length))) (wrote .ensures .1 (z .sector) (z .later) (z .steps)))
+
+pub correct-on-spec : {M : Type 1} → statement M
+correct-on-spec =
+    tie.close
+    (tie.spec
+    content-right-requires
+    wanted-wrong-requires
+    returns
+    place-of-requires
+    sector-missing-requires
+    returns-2
+    corrected-end-requires
+    sub-if3
+    room-missing-requires
+    returns-3
+    write-corrected-requires
+    done-requires
+    same-length
+    same-length-2
+    returns-4)

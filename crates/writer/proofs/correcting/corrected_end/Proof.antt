@@ -1,0 +1,63 @@
+-- `corrected_end` meets its contract: the block of the corrected sector, and those behind it.
+use mathlib.Core.Path.{_≡_, ap, _∙_}
+use Prim.Native.Nat.{ℕ, _+_, _≤_}
+use native.Mathlib.Omega.{arith}
+use lib.ListN.{length}
+use borrow.Author.Needs.{needs}
+use Rattle.format.specs.Written.{gapOne}
+use Rattle.writer.proofs.Filled.{size-most}
+use Rattle.writer.proofs.Corrected.{later-left, later-steps, end-new}
+use Rattle.writer.proofs.correcting.corrected_end.Statement.{statement}
+use Rattle.writer.proofs.correcting.corrected_end.Tie as tie
+
+sector-at-requires : tie.Need-sector-at-requires
+sector-at-requires c κs = search needs
+
+cast-kl : tie.Need-cast-kl
+cast-kl c = search needs
+
+cast-dl : tie.Need-cast-dl
+cast-dl c = search needs
+
+sector-size-requires : tie.Need-sector-size-requires
+sector-size-requires c κs = search needs
+
+add-end : tie.Need-add-end
+add-end c =
+    let a = c .before .before .before .before .before .before .args in
+    let pre = c .before .before .before .before .before .before .pre in
+    omega (arith, pre .1, pre .0 .length-most, c .sector-size .ensures, size-most (a .first) (length (a .key .now)) (length (a .body .now)))
+
+gap-one-requires : tie.Need-gap-one-requires
+gap-one-requires c κs = search needs
+
+end-of-later-requires : tie.Need-end-of-later-requires
+unfolding gapOne
+end-of-later-requires c κs =
+    let a = c .before .before .before .before .before .before .before .args in
+    let pre = c .before .before .before .before .before .before .before .pre in (
+      later-left (a .track .now) (a .marks .now) (a .q) (a .first) (pre .0) (pre .1 .0) (c .before .before .sector-at .result) (c .before .before .sector-at .ensures),
+      omega (arith, pre .1, pre .0 .length-most, c .before .sector-size .ensures, c .gap-one .ensures, size-most (a .first) (length (a .key .now)) (length (a .body .now))),
+    )
+
+returns : tie.Need-returns
+returns c =
+    let a = c .before .before .before .before .before .before .before .before .args in
+    let s = c .before .before .before .sector-at in
+    λ x xs f.
+    end-new (a .track .now) (a .marks .now) (a .q) (a .first) x xs f (s .result) (s .ensures) (a .key .now) (a .body .now) _ _ _
+    (ap (λ (n : ℕ). a .q + n) (c .before .before .sector-size .ensures)) (c .before .gap-one .ensures)
+    (c .end-of-later .ensures xs (later-steps (a .track .now) (a .marks .now) (a .q) (a .first) x xs f (s .result) (s .ensures)))
+
+pub corrected-end-spec : {M : Type 1} → statement M
+corrected-end-spec =
+    tie.close
+    (tie.spec
+    sector-at-requires
+    cast-kl
+    cast-dl
+    sector-size-requires
+    add-end
+    gap-one-requires
+    end-of-later-requires
+    returns)

@@ -1,0 +1,54 @@
+-- The sectors that are left of an accepted track from a place on, as the writing loops step over them.
+use mathlib.Core.Path.{_≡_}
+use Prim.Native.Nat.{ℕ, _+_, _-_, _≤_}
+use mathlib.Core.Bool.{Bool, false}
+use mathlib.Core.List.{List, [], _∷_}
+use lib.ListN.{length}
+use Rattle.crc.specs.Check.{pick}
+use Rattle.format.specs.Judged.{good}
+use Rattle.format.specs.Lent.{cells}
+use Rattle.format.specs.Home.{firstCountPlace}
+use Rattle.format.specs.Span.{joined, none}
+use Rattle.format.specs.Accept.{Placed, Accepted, accept}
+use Rattle.format.specs.Written.{gapOne, reach, writtenSpans}
+use Rattle.format.specs.Correct.{withContent, sectorsOf}
+use Rattle.sectors.proofs.From.{SectorsFrom}
+
+-- The track t with the marks m is accepted, and its sector 0 opens at place `start`.
+pub record Readable (t m : List ℕ) (start : ℕ) : Type 0 where
+  pub accepted : Accepted
+  pub is-accepted : accept t m ≡ good accepted
+  pub starts : start ≡ firstCountPlace (accepted .home .place)
+
+-- The sectors from place p on.
+pub record Left (t m : List ℕ) (p : ℕ) (first : Bool) : Type 0 where
+  pub sectors : List Placed
+  pub steps : SectorsFrom t m p first sectors
+  pub cells-length : length (cells t m) ≡ length t
+  pub length-most : length t ≤ 4002
+
+-- The sectors xs in first-written form, which fill n cells.
+abbrev pub laterCells : ℕ → List Placed → List ℕ
+laterCells n xs = joined (writtenSpans gapOne n (sectorsOf xs))
+
+-- There is room for them from place `at` of l cells on; none are left at index.
+abbrev pub RoomFor : ℕ → ℕ → List Placed → Type 0
+RoomFor l at [] = at ≡ l
+RoomFor l at (x ∷ xs) = at + reach gapOne (sectorsOf (x ∷ xs)) ≤ l
+
+-- The sectors from place p of the old track on have room from place `at` of the new one on.
+pub record LeftRoom (t m : List ℕ) (p at : ℕ) : Type 0 where
+  pub left : Left t m p false
+  pub room : RoomFor (length t) at (left .sectors)
+
+-- Where the last block of the sectors xs ends, if a block before them ends at `end` and has the gap `gap` behind it.
+unfoldable pub farthest : ℕ → ℕ → List Placed → ℕ
+farthest end gap xs = end + pick (none xs) 0 (gap + reach gapOne (sectorsOf xs))
+
+-- Where the last block ends, if the sector x at place q, with the sectors xs behind it, gets a new key and data.
+unfoldable pub correctedEnd : ℕ → List ℕ → List ℕ → Placed → List Placed → ℕ
+correctedEnd q key body x xs = q + reach gapOne (withContent key body (x .sector) ∷ sectorsOf xs)
+
+-- The cells from there to index of a track of l cells.
+unfoldable pub correctedCells : ℕ → ℕ → List ℕ → List ℕ → Placed → List Placed → List ℕ
+correctedCells l q key body x xs = joined (writtenSpans gapOne (l - q) (withContent key body (x .sector) ∷ sectorsOf xs))

@@ -1,0 +1,204 @@
+// Correct: a sector gets a new key and data, and all behind its count's opening is written anew.
+ghost use mathlib.Core.Path.{_≡_};
+ghost use mathlib.Core.Bool.{true, false};
+ghost use mathlib.Core.List.{List, _∷_, _++_};
+ghost use Prim.Native.Nat.{_+_, _-_, _≤_, _<_};
+ghost use lib.ListN.{length, take};
+ghost use Rattle.format.specs.Answer.{answerAt};
+ghost use Rattle.format.specs.Judged.{answerOf};
+ghost use Rattle.format.specs.Lent.{cells, bytesOf, marksOf};
+ghost use Rattle.format.specs.Accept.{Placed};
+ghost use Rattle.format.specs.Written.{gapOne, asPair};
+ghost use Rattle.format.specs.Correct.{correctCells, correct};
+ghost use Rattle.sectors.proofs.From.{SectorsFrom};
+ghost use Rattle.writer.specs.After.{trackAfter, marksAfter};
+ghost use Rattle.writer.specs.Left.{Readable, Left, LeftRoom, RoomFor, laterCells, farthest, correctedEnd, correctedCells};
+use crate::both_lent;
+use crate::content_right;
+use crate::copy_kept;
+use crate::place_of;
+use crate::put_span;
+use crate::span_end;
+
+// The place at which the last block ends, if the sectors from place p on are written behind a block that ends at `end` with the gap `gap`.
+fn end_of_later(track: &[u8], marks: &[u8], p: usize, end: usize, gap: usize) -> usize
+    requires { ⌜ Left (now track) (now marks) p false ⌝ }
+    requires { ⌜ end + gap ≤ 100000 ⌝ }
+    ensures { λ r. ⌜ ((xs : List Placed) → SectorsFrom (now (track .entry)) (now (marks .entry)) p false xs → r ≡ farthest end gap xs) ⌝ }
+{
+    let mut p = p;
+    let mut end = end;
+    let mut gap = gap;
+    while p < track.len() {
+        let x = sectors::sector_at(track, marks, false, p);
+        let kl = x.key_length as u8;
+        let dl = x.data_length as u16;
+        end = end + gap + encode::sector_size(false, kl, dl);
+        gap = encode::gap_one(kl, dl);
+        p = x.next;
+    }
+    end
+}
+
+// Writes the sectors from place p of the old track on, from place `at` of the new one on.
+fn write_later(
+    track: &[u8],
+    marks: &[u8],
+    new_track: &mut [u8],
+    new_marks: &mut [u8],
+    p: usize,
+    at: usize,
+)
+    requires { ⌜ LeftRoom (now track) (now marks) p at ⌝ }
+    requires { ⌜ (length (now «new_track») ≡ length (now track)) × (length (now «new_marks») ≡ length (now track)) ⌝ }
+    ensures bytes { λ _. ⌜ ((xs : List Placed) → SectorsFrom (now (track .entry)) (now (marks .entry)) p false xs → RoomFor (length (now (track .entry))) at xs → now («new_track» .exit) ≡ take at (now («new_track» .entry)) ++ bytesOf (laterCells (length (now (track .entry)) - at) xs)) ⌝ }
+    ensures marks { λ _. ⌜ ((xs : List Placed) → SectorsFrom (now (track .entry)) (now (marks .entry)) p false xs → RoomFor (length (now (track .entry))) at xs → now («new_marks» .exit) ≡ take at (now («new_marks» .entry)) ++ marksOf (laterCells (length (now (track .entry)) - at) xs)) ⌝ }
+{
+    let l = track.len();
+    let mut p = p;
+    let mut at = at;
+    while p < l {
+        let x = sectors::sector_at(track, marks, false, p);
+        let a = sectors::address_at(track, marks, false, p);
+        let to = span_end(at, false, x.key_length, x.data_length, x.last, l);
+        let k = x.key_place;
+        let k_end = k + x.key_length;
+        let d = x.data_place;
+        let d_end = d + x.data_length;
+        put_span(
+            new_track,
+            new_marks,
+            at,
+            to,
+            false,
+            x.flag,
+            a.cylinder,
+            a.head,
+            x.number,
+            &track[k..k_end],
+            &track[d..d_end],
+        );
+        p = x.next;
+        at = to;
+    }
+}
+
+// The place at which the last block ends, if the sector at place q gets the new key and data.
+fn corrected_end(
+    track: &[u8],
+    marks: &[u8],
+    q: usize,
+    first: bool,
+    key: &[u8],
+    body: &[u8],
+) -> usize
+    requires { ⌜ Left (now track) (now marks) q first ⌝ }
+    requires { ⌜ q < length (now track) ⌝ }
+    requires { ⌜ (length (now key) ≤ 255) × (length (now body) ≤ 65535) ⌝ }
+    ensures { λ r. ⌜ ((x : Placed) (xs : List Placed) → SectorsFrom (now (track .entry)) (now (marks .entry)) q first (x ∷ xs) → r ≡ correctedEnd q (now (key .entry)) (now (body .entry)) x xs) ⌝ }
+{
+    let x = sectors::sector_at(track, marks, first, q);
+    let kl = key.len() as u8;
+    let dl = body.len() as u16;
+    let end = q + encode::sector_size(first, kl, dl);
+    end_of_later(track, marks, x.next, end, encode::gap_one(kl, dl))
+}
+
+// Writes the new track: what stands before place q as it was, the sector there with the new key and data, and those behind it.
+fn write_corrected(
+    track: &[u8],
+    marks: &[u8],
+    new_track: &mut [u8],
+    new_marks: &mut [u8],
+    q: usize,
+    first: bool,
+    key: &[u8],
+    body: &[u8],
+)
+    requires { ⌜ Left (now track) (now marks) q first ⌝ }
+    requires { ⌜ (q < length (now track)) × ((x : Placed) (xs : List Placed) → SectorsFrom (now track) (now marks) q first (x ∷ xs) → correctedEnd q (now key) (now body) x xs ≤ length (now track)) ⌝ }
+    requires { ⌜ (length (now key) ≤ 255) × (length (now body) ≤ 65535) ⌝ }
+    requires { ⌜ (length (now marks) ≡ length (now track)) × (length (now «new_track») ≡ length (now track)) × (length (now «new_marks») ≡ length (now track)) ⌝ }
+    ensures bytes { λ _. ⌜ ((x : Placed) (xs : List Placed) → SectorsFrom (now (track .entry)) (now (marks .entry)) q first (x ∷ xs) → now («new_track» .exit) ≡ take q (now (track .entry)) ++ bytesOf (correctedCells (length (now (track .entry))) q (now (key .entry)) (now (body .entry)) x xs)) ⌝ }
+    ensures marks { λ _. ⌜ ((x : Placed) (xs : List Placed) → SectorsFrom (now (track .entry)) (now (marks .entry)) q first (x ∷ xs) → now («new_marks» .exit) ≡ take q (now (marks .entry)) ++ marksOf (correctedCells (length (now (track .entry))) q (now (key .entry)) (now (body .entry)) x xs)) ⌝ }
+{
+    copy_kept(track, marks, new_track, new_marks, q);
+    let x = sectors::sector_at(track, marks, first, q);
+    let a = sectors::address_at(track, marks, first, q);
+    let l = track.len();
+    let to = span_end(q, first, key.len(), body.len(), x.last, l);
+    put_span(
+        new_track,
+        new_marks,
+        q,
+        to,
+        first,
+        x.flag,
+        a.cylinder,
+        a.head,
+        x.number,
+        key,
+        body,
+    );
+    write_later(track, marks, new_track, new_marks, x.next, to);
+}
+
+// Correct on an accepted track whose sector 0 opens at place `start`: 14, 12, 15, and then the new track is written.
+fn correct_on(
+    track: &[u8],
+    marks: &[u8],
+    new_track: &mut [u8],
+    new_marks: &mut [u8],
+    start: usize,
+    s: u8,
+    key: &[u8],
+    body: &[u8],
+) -> format::Answer
+    requires { ⌜ Readable (now track) (now marks) start ⌝ }
+    requires { ⌜ (length (now «new_track») ≡ length (now track)) × (length (now «new_marks») ≡ length (now track)) ⌝ }
+    ensures answer { λ r. ⌜ answerAt (r .number) (r .place) ≡ answerOf (asPair (correctCells gapOne (cells (now (track .entry)) (now (marks .entry))) s (now (key .entry)) (now (body .entry)))) ⌝ }
+    ensures bytes { λ _. ⌜ now («new_track» .exit) ≡ trackAfter (asPair (correctCells gapOne (cells (now (track .entry)) (now (marks .entry))) s (now (key .entry)) (now (body .entry)))) (now («new_track» .entry)) ⌝ }
+    ensures marks { λ _. ⌜ now («new_marks» .exit) ≡ marksAfter (asPair (correctCells gapOne (cells (now (track .entry)) (now (marks .entry))) s (now (key .entry)) (now (body .entry)))) (now («new_marks» .entry)) ⌝ }
+{
+    if !content_right(key, body) {
+        return format::wanted_wrong();
+    }
+    let q = place_of(track, marks, start, s);
+    if track.len() <= q {
+        return format::sector_missing();
+    }
+    let first = q == start;
+    let end = corrected_end(track, marks, q, first, key, body);
+    if track.len() - 13 < end {
+        return format::room_missing();
+    }
+    write_corrected(track, marks, new_track, new_marks, q, first, key, body);
+    format::done()
+}
+
+// Correct: 1, the old track's own answer, 14, 12 and 15 leave every byte and mark as it was; 0 where the new track is written.
+pub fn correct(
+    track: &[u8],
+    marks: &[u8],
+    new_track: &mut [u8],
+    new_marks: &mut [u8],
+    s: u8,
+    key: &[u8],
+    body: &[u8],
+) -> format::Answer
+    ensures answer { λ r. ⌜ answerAt (r .number) (r .place) ≡ answerOf (correct gapOne (now (track .entry)) (now (marks .entry)) (length (now («new_track» .entry))) (length (now («new_marks» .entry))) s (now (key .entry)) (now (body .entry))) ⌝ }
+    ensures bytes { λ _. ⌜ now («new_track» .exit) ≡ trackAfter (correct gapOne (now (track .entry)) (now (marks .entry)) (length (now («new_track» .entry))) (length (now («new_marks» .entry))) s (now (key .entry)) (now (body .entry))) (now («new_track» .entry)) ⌝ }
+    ensures marks { λ _. ⌜ now («new_marks» .exit) ≡ marksAfter (correct gapOne (now (track .entry)) (now (marks .entry)) (length (now («new_track» .entry))) (length (now («new_marks» .entry))) s (now (key .entry)) (now (body .entry))) (now («new_marks» .entry)) ⌝ }
+{
+    if !both_lent(track, marks, new_track.len(), new_marks.len()) {
+        return format::lent_wrong();
+    }
+    let judged = reader::judge(track, marks);
+    match judged {
+        reader::Judged::Accepted(h) => {
+            let start = h.place + 25;
+            correct_on(track, marks, new_track, new_marks, start, s, key, body)
+        }
+        reader::Judged::Refused(a) => a,
+    }
+}

@@ -1,0 +1,121 @@
+// Writing a lent track: a blank one, one more sector, and a sector with a new key and data.
+ghost use mathlib.Core.Path.{_≡_};
+ghost use mathlib.Core.Bool.{true};
+ghost use mathlib.Core.List.{List};
+ghost use Prim.Native.Nat.{_+_, _-_, _≤_};
+ghost use lib.ListN.{length, take};
+ghost use lib.Dec.{eqb};
+ghost use Rattle.crc.specs.Check.{pick};
+ghost use Rattle.format.specs.Lent.{bytesOf, marksOf};
+ghost use Rattle.format.specs.Accept.{Placed};
+ghost use Rattle.format.specs.Written.{gapOne};
+ghost use Rattle.format.specs.Blank.{contentRight};
+ghost use Rattle.format.specs.Add.{bothLent, fromNumber};
+ghost use Rattle.sectors.proofs.From.{SectorsFrom};
+ghost use Rattle.encode.specs.Laid.{laidOver, laidAt};
+ghost use Rattle.encode.specs.Room.{sectorFrom, sectorSize};
+ghost use Rattle.writer.specs.After.{filledSpan};
+ghost use Rattle.writer.specs.Left.{Left};
+
+pub mod blanking;
+pub mod correcting;
+
+pub use blanking::blank;
+pub use correcting::correct;
+
+// Whether a key and data keep their rule: at most 255 bytes and at most 65,535.
+fn content_right(key: &[u8], body: &[u8]) -> bool
+    ensures { λ r. ⌜ r ≡ contentRight (now (key .entry)) (now (body .entry)) ⌝ }
+{
+    if 255 < key.len() {
+        return false;
+    }
+    body.len() <= 65535
+}
+
+// Whether both pairs are lent within the rule: the read one, and the written one of the lengths l and k.
+fn both_lent(track: &[u8], marks: &[u8], l: usize, k: usize) -> bool
+    ensures { λ r. ⌜ r ≡ bothLent (now (track .entry)) (now (marks .entry)) l k ⌝ }
+{
+    if !search::lent_for_reading(track, marks) {
+        return false;
+    }
+    if l != track.len() {
+        return false;
+    }
+    k == track.len()
+}
+
+// The place up to which a sector written at place `at` and the gap behind it reach: to index where it is the last, else by rule one.
+fn span_end(at: usize, first: bool, kl: usize, dl: usize, last: bool, l: usize) -> usize
+    requires { ⌜ (kl ≤ 255) × (dl ≤ 65535) ⌝ }
+    requires { ⌜ at ≤ 4002 ⌝ }
+    ensures { λ r. ⌜ r ≡ pick last l (at + sectorSize first kl dl + gapOne kl dl) ⌝ }
+{
+    if last {
+        return l;
+    }
+    at + encode::sector_size(first, kl as u8, dl as u16) + encode::gap_one(kl as u8, dl as u16)
+}
+
+// The place of the leftmost sector that carries S, or index where no sector does.
+fn place_of(track: &[u8], marks: &[u8], start: usize, s: u8) -> usize
+    requires { ⌜ Left (now track) (now marks) start true ⌝ }
+    ensures { λ r. ⌜ ((xs : List Placed) → SectorsFrom (now (track .entry)) (now (marks .entry)) start true xs → SectorsFrom (now (track .entry)) (now (marks .entry)) r (eqb r start) (fromNumber s xs)) ⌝ }
+{
+    let mut p = start;
+    while p < track.len() {
+        let x = sectors::sector_at(track, marks, p == start, p);
+        if x.number == s {
+            return p;
+        }
+        p = x.next;
+    }
+    p
+}
+
+// Copies the first n bytes and marks.
+fn copy_kept(track: &[u8], marks: &[u8], new_track: &mut [u8], new_marks: &mut [u8], n: usize)
+    requires { ⌜ (n ≤ length (now track)) × (n ≤ length (now marks)) ⌝ }
+    requires { ⌜ (n ≤ length (now «new_track»)) × (n ≤ length (now «new_marks»)) ⌝ }
+    ensures bytes { λ _. ⌜ now («new_track» .exit) ≡ laidOver (take n (now (track .entry))) (now («new_track» .entry)) ⌝ }
+    ensures marks { λ _. ⌜ now («new_marks» .exit) ≡ laidOver (take n (now (marks .entry))) (now («new_marks» .entry)) ⌝ }
+{
+    encode::copy_front(track, new_track, n);
+    encode::copy_front(marks, new_marks, n);
+}
+
+// Writes a sector from place p on, and the gap behind it up to place `to`.
+fn put_span(
+    track: &mut [u8],
+    marks: &mut [u8],
+    p: usize,
+    to: usize,
+    first: bool,
+    flag: u8,
+    cylinder: u16,
+    head: u16,
+    s: u8,
+    key: &[u8],
+    body: &[u8],
+)
+    requires { ⌜ (length (now key) ≤ 255) × (length (now body) ≤ 65535) ⌝ }
+    requires { ⌜ p + sectorSize first (length (now key)) (length (now body)) ≤ to ⌝ }
+    requires { ⌜ (to ≤ length (now track)) × (to ≤ length (now marks)) ⌝ }
+    ensures bytes { λ _. ⌜ now (track .exit) ≡ laidAt p (bytesOf (filledSpan (to - p) (sectorFrom first flag cylinder head s (now (key .entry)) (now (body .entry))))) (now (track .entry)) ⌝ }
+    ensures marks { λ _. ⌜ now (marks .exit) ≡ laidAt p (marksOf (filledSpan (to - p) (sectorFrom first flag cylinder head s (now (key .entry)) (now (body .entry))))) (now (marks .entry)) ⌝ }
+{
+    encode::write_sector(
+        &mut track[p..],
+        &mut marks[p..],
+        first,
+        flag,
+        cylinder,
+        head,
+        s,
+        key,
+        body,
+    );
+    let n = encode::sector_size(first, key.len() as u8, body.len() as u16);
+    encode::fill_gap(track, marks, p + n, to);
+}

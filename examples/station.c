@@ -1,0 +1,142 @@
+/*
+ * A small capture station: makes a track with two sectors, reads it, corrects it,
+ * and writes the pair (L track bytes, then L marks) to the file named on the command line.
+ */
+#include "iso3561.h"
+
+#include <stdio.h>
+#include <string.h>
+
+#define L 3906
+
+/* A track with its marks. */
+struct pair {
+    uint8_t track[L];
+    uint8_t marks[L];
+};
+
+static const uint8_t label[] = "ISO 3561";
+static const uint8_t key[] = "KEY";
+static const uint8_t draft[] = "A first draft of the record";
+static const uint8_t record[] = "A record of eighty bytes, as one punched card holds it";
+
+/* Answers that were not the expected ones. */
+static int surprises;
+
+/* Prints a number and a place, and counts them if they are not the expected ones. */
+static void expect(const char *what, unsigned number, size_t place,
+                   unsigned wanted_number, size_t wanted_place) {
+    int right = number == wanted_number && place == wanted_place;
+    printf("%s: %u at %zu%s\n", what, number, place, right ? "" : ", not expected");
+    surprises += !right;
+}
+
+/* The same for a result that should be 0 at 0. */
+static void expect_done(const char *what, uint64_t result) {
+    expect(what, iso3561_number(result), iso3561_place(result), ISO3561_DONE, 0);
+}
+
+/* A text filled up with blanks to the 80 bytes of a card. */
+static void card(uint8_t out[80], const uint8_t *text) {
+    memset(out, ' ', 80);
+    memcpy(out, text, strlen((const char *)text));
+}
+
+/* Home and sector 0 with eight bytes of data. */
+static void make(struct pair *pair) {
+    expect_done("blank", iso3561_blank(pair->track, L, pair->marks, L, 100, 7, 0, 0, 0, 0,
+                                       key, 0, label, 8));
+    expect_done("accept", iso3561_accept(pair->track, L, pair->marks, L));
+}
+
+/* One more sector, with a key of 3 and data of 80 bytes. */
+static void add(const struct pair *old, struct pair *new_pair) {
+    uint8_t data[80];
+    card(data, draft);
+    expect_done("add sector 1",
+                iso3561_add(old->track, L, old->marks, L, new_pair->track, L,
+                            new_pair->marks, L, 0, 1, key, 3, data, 80));
+    expect_done("accept", iso3561_accept(new_pair->track, L, new_pair->marks, L));
+}
+
+/* Sector 1's data must be the card with this text. */
+static void find(const struct pair *pair, const uint8_t *text) {
+    uint8_t data[80];
+    uint64_t result = iso3561_find(pair->track, L, pair->marks, L, 1, ISO3561_DATA);
+    size_t start = iso3561_part_start(result);
+    size_t length = iso3561_part_length(result);
+    card(data, text);
+    expect_done("find data of sector 1", result);
+    if (length != 80 || start != 182 || memcmp(pair->track + start, data, 80) != 0) {
+        printf("the data found is not what was written\n");
+        surprises++;
+        return;
+    }
+    printf("  %zu bytes at %zu: %.*s\n", length, start, (int)strlen((const char *)text),
+           (const char *)pair->track + start);
+}
+
+/* Both counts from left to right, then none. */
+static void walk(const struct pair *pair) {
+    static const size_t places[] = {55, 122};
+    uint64_t from = 0;
+    uint64_t step;
+    size_t i;
+    for (i = 0; i < 2; i++) {
+        step = iso3561_walk(pair->track, L, pair->marks, L, from);
+        expect("walk", iso3561_walk_number(step), iso3561_walk_place(step), ISO3561_DONE,
+               places[i]);
+        printf("  flag %d, S %d, KL %d, DL %d\n", iso3561_walk_flag(step),
+               iso3561_walk_sector(step), iso3561_walk_kl(step), iso3561_walk_dl(step));
+        from = iso3561_walk_place(step) + 1;
+    }
+    step = iso3561_walk(pair->track, L, pair->marks, L, from);
+    expect("walk", iso3561_walk_number(step), iso3561_walk_place(step), ISO3561_NOT_FOUND, 0);
+}
+
+/* Sector 1 gets its final data; a sector that is not there is refused. */
+static void correct(const struct pair *old, struct pair *new_pair) {
+    uint8_t data[80];
+    uint64_t refused;
+    card(data, record);
+    expect_done("correct sector 1",
+                iso3561_correct(old->track, L, old->marks, L, new_pair->track, L,
+                                new_pair->marks, L, 1, key, 3, data, 80));
+    expect_done("accept", iso3561_accept(new_pair->track, L, new_pair->marks, L));
+    refused = iso3561_correct(old->track, L, old->marks, L, new_pair->track, L,
+                              new_pair->marks, L, 9, key, 3, data, 80);
+    expect("correct sector 9", iso3561_number(refused), iso3561_place(refused),
+           ISO3561_NOT_FOUND, 0);
+}
+
+/* The pair as the listing program reads it. */
+static int save(const char *name, const struct pair *pair) {
+    FILE *file = fopen(name, "wb");
+    int written;
+    if (file == NULL) {
+        perror(name);
+        return 0;
+    }
+    written = fwrite(pair->track, 1, L, file) == L && fwrite(pair->marks, 1, L, file) == L;
+    if (fclose(file) != 0 || !written) {
+        perror(name);
+        return 0;
+    }
+    printf("wrote %d bytes to %s\n", 2 * L, name);
+    return 1;
+}
+
+int main(int count, char **words) {
+    static struct pair one, two, three;
+    if (count != 2) {
+        fprintf(stderr, "usage: %s FILE\n", words[0]);
+        return 2;
+    }
+    make(&one);
+    add(&one, &two);
+    find(&two, draft);
+    walk(&two);
+    correct(&two, &three);
+    find(&three, record);
+    return save(words[1], &three) && surprises == 0 ? 0 : 1;
+}

@@ -1,0 +1,27 @@
+//! A safe wrapper of the proved library for tracks of interchangeable six-disk packs (ISO 3561).
+//!
+//! A track is two byte slices of one length, 3,815 to 4,002: the bytes and the marks.
+//!
+//! ```
+//! use station::{accept, blank, find, Address, NewTrack, Wanted};
+//!
+//! let (mut track, mut marks) = (vec![0; 3_906], vec![0; 3_906]);
+//! let wanted = NewTrack {
+//!     address: Address { cylinder: 100, head: 7 },
+//!     data: b"ISO 3561",
+//!     ..NewTrack::default()
+//! };
+//! assert!(blank(&mut track, &mut marks, &wanted).is_done());
+//! assert!(accept(&track, &marks).is_done());
+//! assert_eq!(find(&track, &marks, 0, Wanted::Data), Ok(&b"ISO 3561"[..]));
+//! ```
+
+mod reading;
+mod result;
+mod writing;
+
+pub use reading::{
+    accept, candidates, find, pair_find, walk_from, Candidates, Lent, Wanted, Which,
+};
+pub use result::{Answer, Candidate};
+pub use writing::{add, blank, correct, Address, NewBody, NewSector, NewTrack};

@@ -1,0 +1,299 @@
+//! Accept, Find, Pair find and Walk against the reference, on sound, damaged and jumbled tracks.
+
+mod common;
+
+use common::{answer, expected, Tally, Track};
+use reference::generate::{damaged, jumbled, pair, sound, Plan, PlannedSector, Rng};
+use reference::{Address, Part};
+use station::{Lent, Wanted, Which};
+
+/// Numbers that Accept can give.
+const ACCEPT: [u8; 13] = [0, 1, 2, 3, 4, 5, 6, 7, 8, 9, 10, 11, 13];
+/// Numbers that Find can give.
+const FIND: [u8; 7] = [0, 1, 9, 10, 11, 12, 13];
+/// Numbers that Pair find can give about the first track.
+const FIRST: [u8; 14] = [0, 1, 2, 3, 4, 6, 7, 8, 9, 10, 11, 12, 13, 16];
+/// Numbers that Pair find can give about the second track.
+const SECOND: [u8; 14] = [0, 1, 2, 3, 4, 5, 6, 7, 8, 9, 10, 11, 12, 13];
+/// Numbers that Walk can give.
+const WALK: [u8; 3] = [0, 1, 12];
+/// More candidates than any track holds.
+const MANY: usize = 300;
+
+/// One of four tracks is sound, and one of eight is jumbled.
+fn track_of(seed: u64) -> Track {
+    match seed % 8 {
+        0 | 4 => sound(seed),
+        7 => jumbled(seed),
+        _ => damaged(seed),
+    }
+}
+
+/// Both slices of a track.
+fn lent(track: &Track) -> Lent<'_> {
+    (&track.0, &track.1)
+}
+
+/// The same wish in both types.
+fn wish(rng: &mut Rng) -> (Wanted, Part) {
+    rng.pick(&[(Wanted::Key, Part::Key), (Wanted::Data, Part::Data)])
+}
+
+/// The number of some candidate, or any number.
+fn some_number(rng: &mut Rng, (track, marks): Lent) -> u8 {
+    let mut walk = reference::Walk::new(track, marks);
+    let mut numbers = vec![rng.byte()];
+    while let Ok(candidate) = walk.step() {
+        numbers.push(candidate.s);
+    }
+    match numbers.len() {
+        1 => numbers[0],
+        _ if rng.chance(8) => numbers[0],
+        more => numbers[rng.between(1, more - 1)],
+    }
+}
+
+/// Demands the same refusal, or the same bytes at the same place of the lent track.
+fn compare_part(
+    track: &[u8],
+    ours: Result<&[u8], station::Answer>,
+    theirs: (reference::Answer, std::ops::Range<usize>),
+    note: &str,
+) {
+    let (done, range) = (expected(theirs.0), theirs.1);
+    match ours {
+        Err(refusal) => assert_eq!(refusal, done, "{note}"),
+        Ok(part) => {
+            assert_eq!(answer(0, 0), done, "{note}");
+            assert_eq!(part, &track[range.clone()], "{note}");
+            let start = part.as_ptr() as usize - track.as_ptr() as usize;
+            assert!(part.is_empty() || start == range.start, "{start}, {note}");
+        }
+    }
+}
+
+#[test]
+fn accept_as_the_reference() {
+    let mut tally = Tally::new("accept", 24_000);
+    for seed in tally.seeds() {
+        let (track, marks) = track_of(seed);
+        let theirs = reference::accept(&track, &marks);
+        let ours = station::accept(&track, &marks);
+        assert_eq!(ours, expected(theirs), "seed {seed}");
+        tally.count(theirs.number);
+    }
+    tally.finish(20_000, &ACCEPT);
+}
+
+#[test]
+fn find_as_the_reference() {
+    let mut tally = Tally::new("find", 12_000);
+    for seed in tally.seeds() {
+        let whole = track_of(seed);
+        let (track, marks) = lent(&whole);
+        let mut rng = Rng::new(seed ^ 0xF14D);
+        for _ in 0..2 {
+            let s = some_number(&mut rng, (track, marks));
+            let (wanted, part) = wish(&mut rng);
+            let theirs = reference::find(track, marks, s, part);
+            let ours = station::find(track, marks, s, wanted);
+            tally.count(theirs.0.number);
+            compare_part(
+                track,
+                ours,
+                theirs,
+                &format!("seed {seed}, {wanted:?} of {s}"),
+            );
+        }
+    }
+    tally.finish(20_000, &FIND);
+}
+
+/// Whether the second track of a seed must not be read.
+fn second_is_unfit(seed: u64) -> bool {
+    seed % 5 < 2
+}
+
+/// A first track of any kind, a generated pair, or a second track of any kind.
+fn two_tracks(seed: u64) -> (Track, Track) {
+    let pair = pair(seed);
+    match seed % 5 {
+        _ if second_is_unfit(seed) => (track_of(seed), unfit_track(seed)),
+        2 | 3 => (pair.first, pair.second),
+        _ => (pair.first, damaged(seed)),
+    }
+}
+
+/// A track that must not be read: its length or its marks are out of rule.
+fn unfit_track(seed: u64) -> Track {
+    match seed % 4 {
+        0 => (vec![], vec![]),
+        1 => (vec![0xA5; 3_906], vec![2; 3_906]),
+        2 => (vec![0xA5; 3_906], vec![0; 3_905]),
+        _ => (vec![0xA5; 5_000], vec![0; 5_000]),
+    }
+}
+
+#[test]
+fn pair_find_as_the_reference() {
+    let mut about_first = Tally::new("pair find, first track", 25_000);
+    let mut about_second = Tally::new("pair find, second track", 25_000);
+    for seed in about_first.seeds() {
+        let (one, two) = two_tracks(seed);
+        let (first, second) = (lent(&one), lent(&two));
+        let mut rng = Rng::new(seed ^ 0x9A14);
+        let s = match second_is_unfit(seed) {
+            true => some_number(&mut rng, first),
+            false => some_number(&mut rng, second),
+        };
+        let (wanted, part) = wish(&mut rng);
+        let (done, named, range) = reference::pair_find(first, second, s, part);
+        let (which, ours) = station::pair_find(first, second, s, wanted);
+        let note = format!("seed {seed}, {wanted:?} of {s}");
+        let (track, tally) = match named {
+            0 => (first.0, &mut about_first),
+            _ => (second.0, &mut about_second),
+        };
+        tally.count(done.number);
+        assert_eq!(which == Which::Second, named == 1, "{done:?}, {note}");
+        compare_part(track, ours, (done, range), &note);
+    }
+    about_first.finish(11_000, &FIRST);
+    about_second.finish(9_000, &SECOND);
+}
+
+/// Demands the same step from a place on, and gives the place to go on from.
+fn compare_step((track, marks): Lent, from: usize, tally: &mut Tally, seed: u64) -> Option<usize> {
+    let theirs = reference::walk_from(track, marks, from);
+    let ours = station::walk_from(track, marks, from);
+    tally.count(theirs.map_or_else(|refusal| refusal.number, |_| 0));
+    match (ours, theirs) {
+        (Ok(a), Ok(b)) => assert_eq!(
+            (a.place, a.flag, a.s, a.kl, a.dl),
+            (b.place, b.flag, b.s, b.kl, b.dl),
+            "seed {seed}, from {from}"
+        ),
+        (Err(a), Err(b)) => assert_eq!(a, expected(b), "seed {seed}, from {from}"),
+        (a, b) => panic!("seed {seed}, from {from}: {a:?} and {b:?}"),
+    }
+    theirs.ok().map(|candidate| candidate.place + 1)
+}
+
+/// Demands that the iterator gives each candidate once, from left to right, or one refusal.
+fn compare_iterator((track, marks): Lent, seed: u64) {
+    let ours: Vec<_> = station::candidates(track, marks).take(MANY).collect();
+    if reference::walk_from(track, marks, 0) == Err(reference::Answer::new(1, 0)) {
+        assert_eq!(ours, [Err(answer(1, 0))], "seed {seed}");
+        return;
+    }
+    let mut walk = reference::Walk::new(track, marks);
+    let theirs: Vec<_> = std::iter::from_fn(|| walk.step().ok()).collect();
+    let places = |step: &Result<station::Candidate, _>| step.map(|candidate| candidate.place);
+    let ours: Vec<_> = ours.iter().map(places).collect();
+    let theirs: Vec<_> = theirs.iter().map(|candidate| Ok(candidate.place)).collect();
+    assert_eq!(ours, theirs, "seed {seed}");
+}
+
+#[test]
+fn walk_as_the_reference() {
+    let mut tally = Tally::new("walk", 6_000);
+    for seed in tally.seeds() {
+        let whole = track_of(seed);
+        let mut from = Some(0);
+        while let Some(place) = from {
+            from = compare_step(lent(&whole), place, &mut tally, seed);
+        }
+        let anywhere = Rng::new(seed ^ 0x3A1C).below(whole.0.len() + 2);
+        compare_step(lent(&whole), anywhere, &mut tally, seed);
+        compare_iterator(lent(&whole), seed);
+    }
+    tally.finish(20_000, &WALK);
+}
+
+/// From every place of some tracks, and from places that no track has.
+#[test]
+fn walk_from_every_place() {
+    let mut tally = Tally::fixed("walk from every place", 16);
+    for seed in tally.seeds() {
+        let whole = track_of(seed);
+        if reference::accept(&whole.0, &whole.1).number == 1 {
+            continue;
+        }
+        let beyond = [65_535, 65_536, 65_591, 1 << 32, usize::MAX];
+        for from in (0..whole.0.len() + 3).chain(beyond) {
+            compare_step(lent(&whole), from, &mut tally, seed);
+        }
+    }
+    tally.finish(20_000, &[0, 12]);
+}
+
+const HERE: Address = Address {
+    cylinder: 100,
+    head: 7,
+};
+
+/// A sector without a key.
+fn sector(flag: u8, s: u8, dl: usize, gap: usize) -> PlannedSector {
+    PlannedSector {
+        flag,
+        s,
+        key: vec![],
+        data: vec![0xD1; dl],
+        gap,
+    }
+}
+
+/// One or more sectors on a track of this length, with home at this place.
+fn plan(length: usize, home: usize, sectors: Vec<PlannedSector>) -> Plan {
+    Plan {
+        length,
+        home,
+        flag: 0,
+        address: HERE,
+        named: HERE,
+        sectors,
+    }
+}
+
+/// Both implementations' answer for a plan, which must be one.
+fn judged(plan: &Plan) -> station::Answer {
+    let built = plan.build(&mut |length| vec![0x55; length]);
+    let ours = station::accept(&built.track, &built.marks);
+    let theirs = reference::accept(&built.track, &built.marks);
+    assert_eq!(ours, expected(theirs));
+    ours
+}
+
+/// Lengths just out of rule, home just outside its window, cylinder and head just out of range.
+#[test]
+fn limits_of_track_and_home() {
+    let small = || vec![sector(0, 0, 8, 0)];
+    for (length, number) in [(3_814, 1), (3_815, 0), (4_002, 0), (4_003, 1)] {
+        assert_eq!(judged(&plan(length, 30, small())), answer(number, 0));
+    }
+    for home in [22, 38] {
+        assert_eq!(judged(&plan(3_906, home, small())), answer(2, 23));
+    }
+    for home in 23..=37 {
+        assert_eq!(judged(&plan(3_906, home, small())), answer(0, 0));
+    }
+    for (cylinder, head, number, place) in [(202, 9, 0, 0), (203, 7, 4, 30), (100, 10, 4, 30)] {
+        let mut plan = plan(3_906, 30, small());
+        (plan.address.cylinder, plan.address.head) = (cylinder, head);
+        plan.named = plan.address;
+        assert_eq!(judged(&plan), answer(number, place));
+    }
+}
+
+/// The least gap before the next opening is 21, and before index 13.
+#[test]
+fn limits_of_gaps() {
+    for (gap, expected) in [(20, answer(9, 55)), (21, answer(0, 0))] {
+        let sectors = vec![sector(0, 0, 8, gap), sector(0x80, 1, 80, 0)];
+        assert_eq!(judged(&plan(3_906, 30, sectors)), expected);
+    }
+    for (left, expected) in [(12, answer(9, 55)), (13, answer(0, 0))] {
+        let sectors = vec![sector(0, 0, 3_906 - 93 - left, 0)];
+        assert_eq!(judged(&plan(3_906, 30, sectors)), expected);
+    }
+}

@@ -1,0 +1,330 @@
+//! Blank, Add and Correct against the reference: answers, places, and every byte and mark of the buffers.
+
+mod common;
+
+use common::{answer, expected, Tally, Track};
+use reference::generate::{
+    damaged, sound, wanted_add, wanted_blank, wanted_correct, Rng, WantedAdd, WantedBlank,
+    WantedCorrect,
+};
+use station::{Address, Answer, Candidate, Lent, NewBody, NewSector, NewTrack, Wanted};
+
+/// Numbers that Blank can give.
+const BLANK: [u8; 4] = [0, 1, 14, 15];
+/// Numbers that Add can give.
+const ADD: [u8; 15] = [0, 1, 2, 3, 4, 5, 6, 7, 8, 9, 10, 11, 13, 14, 15];
+/// Numbers that Correct can give.
+const CORRECT: [u8; 16] = [0, 1, 2, 3, 4, 5, 6, 7, 8, 9, 10, 11, 12, 13, 14, 15];
+
+/// More sectors than any track holds.
+const MANY: usize = 300;
+
+/// Four of five tracks are sound.
+fn track_of(seed: u64) -> Track {
+    match seed % 5 {
+        0 => damaged(seed),
+        _ => sound(seed),
+    }
+}
+
+/// Both slices of a track.
+fn lent(track: &Track) -> Lent<'_> {
+    (&track.0, &track.1)
+}
+
+/// Two buffers full of noise.
+fn noise(seed: u64, track_length: usize, marks_length: usize) -> Track {
+    let mut rng = Rng::new(seed ^ 0x4015_E000);
+    (rng.bytes(track_length), rng.bytes(marks_length))
+}
+
+/// Buffers for a copy of a track, at times of another length.
+fn buffers(seed: u64, length: usize) -> Track {
+    match seed % 40 {
+        7 => noise(seed, length + 1, length),
+        17 => noise(seed, length, length - 1),
+        27 => noise(seed, length - 1, length - 1),
+        37 => noise(seed, 0, length),
+        _ => noise(seed, length, length),
+    }
+}
+
+/// Demands equal buffers; says where the first difference is.
+fn same_buffers(ours: &Track, theirs: &Track, note: &str) {
+    for (name, a, b) in [("track", &ours.0, &theirs.0), ("marks", &ours.1, &theirs.1)] {
+        assert_eq!(a.len(), b.len(), "{name}, {note}");
+        if let Some(place) = (0..a.len()).find(|&place| a[place] != b[place]) {
+            panic!("{name} at {place}: {} and {}, {note}", a[place], b[place]);
+        }
+    }
+}
+
+/// Demands that a written track is accepted and gives back what one sector got.
+fn reads_back((track, marks): Lent, s: u8, key: &[u8], data: &[u8], note: &str) {
+    assert_eq!(station::accept(track, marks), Answer::DONE, "{note}");
+    let found = |wanted| station::find(track, marks, s, wanted);
+    assert_eq!(found(Wanted::Key), Ok(key), "{note}");
+    assert_eq!(found(Wanted::Data), Ok(data), "{note}");
+}
+
+/// Flag, number, key and data of a sector.
+type Contents = (u8, u8, Vec<u8>, Vec<u8>);
+
+/// The contents of every sector from left to right.
+fn contents((track, marks): Lent) -> Vec<Contents> {
+    let contents_of = |step: Result<Candidate, Answer>| {
+        let Candidate { flag, s, .. } = step.expect("a written track can be walked");
+        let found = |wanted| station::find(track, marks, s, wanted).expect("a sound sector");
+        let (key, data) = (found(Wanted::Key), found(Wanted::Data));
+        (flag, s, key.to_vec(), data.to_vec())
+    };
+    let steps = station::candidates(track, marks).take(MANY);
+    steps.map(contents_of).collect()
+}
+
+/// The wrapper's form of an address.
+fn address(from: reference::Address) -> Address {
+    Address {
+        cylinder: from.cylinder,
+        head: from.head,
+    }
+}
+
+/// Blank by both, into buffers of equal noise; gives the answer and what was written.
+fn blank_by_both(buffers: Track, w: &WantedBlank, note: &str) -> (Answer, Track) {
+    let (mut ours, mut theirs) = (buffers.clone(), buffers);
+    let wanted = NewTrack {
+        address: address(w.address),
+        flag: w.flag,
+        partner: address(w.partner),
+        sector: w.s,
+        key: &w.key,
+        data: &w.data,
+    };
+    let done = station::blank(&mut ours.0, &mut ours.1, &wanted);
+    let same = reference::blank(
+        &mut theirs.0,
+        &mut theirs.1,
+        w.address,
+        w.flag,
+        w.partner,
+        w.s,
+        &w.key,
+        &w.data,
+    );
+    assert_eq!(done, expected(same), "{note}");
+    same_buffers(&ours, &theirs, note);
+    (done, ours)
+}
+
+/// Add by both, into buffers of equal noise.
+fn add_by_both(old: Lent, buffers: Track, w: &WantedAdd, note: &str) -> (Answer, Track) {
+    let (mut ours, mut theirs) = (buffers.clone(), buffers);
+    let wanted = NewSector {
+        b7: w.b7,
+        sector: w.s,
+        key: &w.key,
+        data: &w.data,
+    };
+    let done = station::add(old, &mut ours.0, &mut ours.1, &wanted);
+    let same = reference::add(
+        old.0,
+        old.1,
+        &mut theirs.0,
+        &mut theirs.1,
+        w.b7,
+        w.s,
+        &w.key,
+        &w.data,
+    );
+    assert_eq!(done, expected(same), "{note}");
+    same_buffers(&ours, &theirs, note);
+    (done, ours)
+}
+
+/// Correct by both, into buffers of equal noise.
+fn correct_by_both(old: Lent, buffers: Track, w: &WantedCorrect, note: &str) -> (Answer, Track) {
+    let (mut ours, mut theirs) = (buffers.clone(), buffers);
+    let done = station::correct(old, &mut ours.0, &mut ours.1, &body(w));
+    let same = reference::correct(
+        old.0,
+        old.1,
+        &mut theirs.0,
+        &mut theirs.1,
+        w.s,
+        &w.key,
+        &w.data,
+    );
+    assert_eq!(done, expected(same), "{note}");
+    same_buffers(&ours, &theirs, note);
+    (done, ours)
+}
+
+/// The wrapper's form of a correction.
+fn body(w: &WantedCorrect) -> NewBody<'_> {
+    NewBody {
+        sector: w.s,
+        key: &w.key,
+        data: &w.data,
+    }
+}
+
+#[test]
+fn blank_as_the_reference() {
+    let mut tally = Tally::new("blank", 20_000);
+    for seed in tally.seeds() {
+        let note = format!("seed {seed}");
+        let w = wanted_blank(seed);
+        let before = noise(seed, w.length, w.marks_length);
+        let (done, written) = blank_by_both(before.clone(), &w, &note);
+        tally.count(done.number);
+        match done.is_done() {
+            true => reads_back(lent(&written), w.s, &w.key, &w.data, &note),
+            false => same_buffers(&written, &before, &note),
+        }
+    }
+    tally.finish(20_000, &BLANK);
+}
+
+#[test]
+fn add_as_the_reference() {
+    let mut tally = Tally::new("add", 20_000);
+    for seed in tally.seeds() {
+        let note = format!("seed {seed}");
+        let old = track_of(seed);
+        let w = wanted_add(seed, &old.0, &old.1);
+        let before = buffers(seed, old.0.len());
+        let (done, written) = add_by_both(lent(&old), before.clone(), &w, &note);
+        tally.count(done.number);
+        if !done.is_done() {
+            same_buffers(&written, &before, &note);
+            continue;
+        }
+        reads_back(lent(&written), w.s, &w.key, &w.data, &note);
+        if seed % 8 == 1 {
+            let (new, kept) = (contents(lent(&written)), contents(lent(&old)));
+            assert_eq!(new[..kept.len()], kept, "{note}");
+            assert_eq!(new.len(), kept.len() + 1, "{note}");
+        }
+    }
+    tally.finish(20_000, &ADD);
+}
+
+#[test]
+fn correct_as_the_reference() {
+    let mut tally = Tally::new("correct", 20_000);
+    for seed in tally.seeds() {
+        let note = format!("seed {seed}");
+        let old = track_of(seed);
+        let w = wanted_correct(seed, &old.0, &old.1);
+        let before = buffers(seed, old.0.len());
+        let (done, written) = correct_by_both(lent(&old), before.clone(), &w, &note);
+        tally.count(done.number);
+        if !done.is_done() {
+            same_buffers(&written, &before, &note);
+            continue;
+        }
+        reads_back(lent(&written), w.s, &w.key, &w.data, &note);
+        if seed % 8 == 1 {
+            let wanted = with_body(contents(lent(&old)), &w);
+            assert_eq!(contents(lent(&written)), wanted, "{note}");
+        }
+    }
+    tally.finish(20_000, &CORRECT);
+}
+
+/// The same sectors with one key and data replaced.
+fn with_body(mut sectors: Vec<Contents>, w: &WantedCorrect) -> Vec<Contents> {
+    for sector in sectors.iter_mut().filter(|sector| sector.1 == w.s) {
+        (sector.2, sector.3) = (w.key.clone(), w.data.clone());
+    }
+    sectors
+}
+
+/// Bytes of a first-written sector from its opening to its block's end.
+fn sector_length(first: bool, kl: usize, dl: usize) -> usize {
+    let count = if first { 18 } else { 20 };
+    let key = if kl == 0 { 0 } else { 11 + 9 + kl };
+    let block = if dl == 0 { 7 } else { 9 + dl };
+    count + key + 11 + block
+}
+
+/// Whether two corrections fit together: all from the left one's count on is first-written.
+fn fit_together((track, marks): Lent, a: &WantedCorrect, b: &WantedCorrect) -> bool {
+    let sizes = |sector: &Candidate| match [a, b].into_iter().find(|w| w.s == sector.s) {
+        Some(w) => (w.key.len(), w.data.len()),
+        None => (usize::from(sector.kl), usize::from(sector.dl)),
+    };
+    let steps = station::candidates(track, marks).take(MANY);
+    let all: Vec<_> = steps.flatten().collect();
+    let corrected = |sector: &Candidate| sector.s == a.s || sector.s == b.s;
+    let left = all.iter().position(corrected).expect("both are present");
+    let mut end = all[left].place;
+    for (index, sector) in all.iter().enumerate().skip(left) {
+        if index > left {
+            let (kl, dl) = sizes(&all[index - 1]);
+            end += 21 + (kl + dl) / 20;
+        }
+        let (kl, dl) = sizes(sector);
+        end += sector_length(index == 0, kl, dl);
+    }
+    end + 13 <= track.len()
+}
+
+/// One correction into fresh noise.
+fn corrected(seed: u64, old: &Track, w: &WantedCorrect, note: &str) -> (Answer, Track) {
+    let length = old.0.len();
+    correct_by_both(lent(old), noise(seed, length, length), w, note)
+}
+
+/// Two corrections, each accepted alone, in both orders: one answer, place, track and marks.
+#[test]
+fn corrections_in_both_orders() {
+    let mut tally = Tally::new("second of two corrections", 8_000);
+    for seed in tally.seeds() {
+        let note = format!("seed {seed}");
+        let old = sound(seed);
+        let a = wanted_correct(seed, &old.0, &old.1);
+        let b = wanted_correct(seed ^ 0x0B00_0000, &old.0, &old.1);
+        let (done_a, with_a) = corrected(1, &old, &a, &note);
+        let (done_b, with_b) = corrected(1, &old, &b, &note);
+        if a.s == b.s || !done_a.is_done() || !done_b.is_done() {
+            continue;
+        }
+        let (done_ab, both_ab) = corrected(2, &with_a, &b, &note);
+        let (done_ba, both_ba) = corrected(2, &with_b, &a, &note);
+        assert_eq!(done_ab, done_ba, "{note}");
+        same_buffers(&both_ab, &both_ba, &note);
+        tally.count(done_ab.number);
+        if fit_together(lent(&old), &a, &b) {
+            assert_eq!(done_ab, Answer::DONE, "{note}");
+            reads_back(lent(&both_ab), a.s, &a.key, &a.data, &note);
+            reads_back(lent(&both_ab), b.s, &b.key, &b.data, &note);
+        } else {
+            assert_eq!(done_ab, answer(15, 0), "{note}");
+        }
+    }
+    tally.finish(1_000, &[0, 15]);
+}
+
+/// The largest data of sector 0 without a key, and one byte more.
+#[test]
+fn largest_data_of_a_blank_track() {
+    for (length, largest) in [(3_815, 3_709), (3_906, 3_800), (4_002, 3_896)] {
+        for (dl, number) in [(largest, 0), (largest + 1, 15)] {
+            let w = WantedBlank {
+                length,
+                marks_length: length,
+                address: reference::Address::default(),
+                flag: 0,
+                partner: reference::Address::default(),
+                s: 0,
+                key: vec![],
+                data: vec![0xD1; dl],
+            };
+            let note = format!("length {length}, DL {dl}");
+            let (done, _) = blank_by_both(noise(0, length, length), &w, &note);
+            assert_eq!(done, answer(number, 0), "{note}");
+        }
+    }
+}

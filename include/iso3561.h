@@ -1,0 +1,170 @@
+/*
+ * Tracks of interchangeable six-disk packs (ISO 3561), from index to index.
+ *
+ * A track is lent as two byte slices of one length L, 3,815 to 4,002: the track and its marks.
+ * A mark is 1 where the byte was recorded with its first five clocks missing, and else 0.
+ * Every slice is a pointer and then a length. Nothing is kept after a call returns.
+ * Slices lent for writing overlap no other slice of the same call.
+ */
+#ifndef ISO3561_H
+#define ISO3561_H
+
+#include <stddef.h>
+#include <stdint.h>
+
+#ifdef __cplusplus
+extern "C" {
+#endif
+
+/* Least and greatest L. */
+#define ISO3561_SHORTEST 3815
+#define ISO3561_LONGEST 4002
+
+/* The number of an answer. */
+enum iso3561_number {
+    ISO3561_DONE = 0,         /* done */
+    ISO3561_BAD_INPUT = 1,    /* a lent length or a mark is out of rule */
+    ISO3561_NO_HOME = 2,      /* home opens nowhere in its window */
+    ISO3561_HOME_CHECK = 3,   /* home's check or closing byte is wrong */
+    ISO3561_HOME_FIELD = 4,   /* home's flag, cylinder or head is out of rule */
+    ISO3561_STRAY_MARK = 5,   /* a mark stands outside a whole opening, or too early */
+    ISO3561_NO_COUNT = 6,     /* sector 0's count does not open */
+    ISO3561_COUNT_CHECK = 7,  /* a count's check or closing byte is wrong */
+    ISO3561_COUNT_FIELD = 8,  /* a count's flag, cylinder or head is out of rule */
+    ISO3561_SPAN = 9,         /* a count, its blocks or the least gap do not fit the span */
+    ISO3561_BAD_KEY = 10,     /* the key does not open, or fails its check or closing byte */
+    ISO3561_BAD_DATA = 11,    /* the data block likewise, or is not 00 for DL = 0 */
+    ISO3561_NOT_FOUND = 12,   /* no candidate carries S, or none is left to walk to */
+    ISO3561_REPEATED = 13,    /* two sectors carry one number, or Add repeats one */
+    ISO3561_BAD_WANTED = 14,  /* a wanted field is out of rule */
+    ISO3561_FULL = 15,        /* the last block would end later than L - 13 */
+    ISO3561_PAIR = 16         /* the two tracks do not agree, or the first is flagged 11 */
+};
+
+/* What Find and Pair find are asked for. */
+enum iso3561_wanted {
+    ISO3561_KEY = 0, /* the key's information */
+    ISO3561_DATA = 1 /* the data's information */
+};
+
+/* ---- The result of every call but iso3561_walk ---- */
+
+/* The answer's number. */
+static inline unsigned iso3561_number(uint64_t result) {
+    return (unsigned)(result & 0xFF);
+}
+
+/* The place the answer speaks of, in bytes after index. */
+static inline size_t iso3561_place(uint64_t result) {
+    return (size_t)(result >> 16 & 0xFFFF);
+}
+
+/* Pair find: the track that the answer speaks of, 0 the first, 1 the second. */
+static inline unsigned iso3561_which(uint64_t result) {
+    return (unsigned)(result >> 15 & 1);
+}
+
+/* Find and Pair find: where the part starts on its track. */
+static inline size_t iso3561_part_start(uint64_t result) {
+    return (size_t)(result >> 32 & 0xFFFF);
+}
+
+/* Find and Pair find: how many bytes the part has. */
+static inline size_t iso3561_part_length(uint64_t result) {
+    return (size_t)(result >> 48 & 0xFFFF);
+}
+
+/* ---- The result of iso3561_walk ---- */
+
+/* The answer's number: 0, 1 or 12. */
+static inline unsigned iso3561_walk_number(uint64_t result) {
+    return (unsigned)(result & 0xFF);
+}
+
+/* The count's flag. */
+static inline uint8_t iso3561_walk_flag(uint64_t result) {
+    return (uint8_t)(result >> 8 & 0xFF);
+}
+
+/* The place of the count's opening. */
+static inline size_t iso3561_walk_place(uint64_t result) {
+    return (size_t)(result >> 16 & 0xFFFF);
+}
+
+/* The sector's number S. */
+static inline uint8_t iso3561_walk_sector(uint64_t result) {
+    return (uint8_t)(result >> 32 & 0xFF);
+}
+
+/* The key's length KL. */
+static inline uint8_t iso3561_walk_kl(uint64_t result) {
+    return (uint8_t)(result >> 40 & 0xFF);
+}
+
+/* The data's length DL. */
+static inline uint16_t iso3561_walk_dl(uint64_t result) {
+    return (uint16_t)(result >> 48 & 0xFFFF);
+}
+
+/* ==== Reading calls: all slices are lent for reading, nothing is written ==== */
+
+/* Accept: judges the whole track. */
+uint64_t iso3561_accept(const uint8_t *track, size_t track_length,
+                        const uint8_t *marks, size_t marks_length);
+
+/* Find: the key or data of the one sector with this number, on any track, sound or damaged.
+ * The part lies in the lent track; a refusal has an empty part. `wanted` is an enum iso3561_wanted. */
+uint64_t iso3561_find(const uint8_t *track, size_t track_length,
+                      const uint8_t *marks, size_t marks_length,
+                      uint8_t sector, uint8_t wanted);
+
+/* Pair find: as Find, from a track or from the alternative that it names.
+ * The part lies in the track that iso3561_which tells. */
+uint64_t iso3561_pair_find(const uint8_t *track, size_t track_length,
+                           const uint8_t *marks, size_t marks_length,
+                           const uint8_t *second_track, size_t second_track_length,
+                           const uint8_t *second_marks, size_t second_marks_length,
+                           uint8_t sector, uint8_t wanted);
+
+/* Walk: the first readable count whose opening's place is at least `from`.
+ * Begin with 0 and go on with the place plus 1. Its result has its own layout, see above. */
+uint64_t iso3561_walk(const uint8_t *track, size_t track_length,
+                      const uint8_t *marks, size_t marks_length,
+                      uint64_t from);
+
+/* ==== Writing calls: a refusal writes nothing, answer 0 writes all L bytes and marks ==== */
+
+/* Blank: writes a new track with home and sector 0. Track and marks are written;
+ * key and data are read. The partner is ignored for flags 0 and 3. */
+uint64_t iso3561_blank(uint8_t *track, size_t track_length,
+                       uint8_t *marks, size_t marks_length,
+                       uint16_t cylinder, uint16_t head, uint8_t flag,
+                       uint16_t partner_cylinder, uint16_t partner_head, uint8_t sector,
+                       const uint8_t *key, size_t key_length,
+                       const uint8_t *data, size_t data_length);
+
+/* Add: copies the track with one more sector after the last. The new track and marks, of the
+ * same L, are written; all else is read. `b7` is 1 if the record runs on elsewhere. */
+uint64_t iso3561_add(const uint8_t *track, size_t track_length,
+                     const uint8_t *marks, size_t marks_length,
+                     uint8_t *new_track, size_t new_track_length,
+                     uint8_t *new_marks, size_t new_marks_length,
+                     uint8_t b7, uint8_t sector,
+                     const uint8_t *key, size_t key_length,
+                     const uint8_t *data, size_t data_length);
+
+/* Correct: copies the track with a new key and new data for one sector. The new track and
+ * marks, of the same L, are written; all else is read. */
+uint64_t iso3561_correct(const uint8_t *track, size_t track_length,
+                         const uint8_t *marks, size_t marks_length,
+                         uint8_t *new_track, size_t new_track_length,
+                         uint8_t *new_marks, size_t new_marks_length,
+                         uint8_t sector,
+                         const uint8_t *key, size_t key_length,
+                         const uint8_t *data, size_t data_length);
+
+#ifdef __cplusplus
+}
+#endif
+
+#endif
