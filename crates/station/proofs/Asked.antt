@@ -3,8 +3,8 @@ use mathlib.Core.Path.{_≡_}
 use Prim.Native.Nat.{ℕ}
 use borrow.Author.Tests.{eq-eqb, ne-eqb}
 use Rattle.format.specs.Answer.{wantedWrong}
-use Rattle.format.specs.Judged.{Judged, good, refused}
-use Rattle.format.specs.Find.{Wanted, theKey, theData}
+use Rattle.format.specs.Judged.{good, refused}
+use Rattle.format.specs.Find.{theKey, theData}
 use Rattle.station.specs.Packed.{wantedBy}
 
 -- 0 asks for the key.

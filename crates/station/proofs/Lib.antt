@@ -1,2 +1,5 @@
 -- The laws that lead from the calls of C to the definitions.
 pub mod Asked
+pub mod Places
+pub mod Fields
+pub mod Unpacked

@@ -6,6 +6,7 @@ ghost use Rattle.reader.specs.Pairing.{asPaired};
 ghost use Rattle.station.specs.Packed.{packedAnswer, packedBounds, packedPart, packedPaired, asVisited, packedVisited, packedVisit};
 
 pub mod reading;
+pub mod writing;
 
 // An answer: bits 0 to 7 number, 16 to 31 place.
 fn packed_answer(a: format::Answer) -> u64

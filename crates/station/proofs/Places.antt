@@ -1,0 +1,153 @@
+-- Accept gives rows of the table, and no place beyond 4,002, the greatest L.
+use mathlib.Core.Path.{_≡_, refl, ap}
+use Prim.Native.Nat.{ℕ, zero, suc, _+_, _≤_}
+use native.Mathlib.Omega.{arith}
+use mathlib.Core.Bool.{Bool, true, false, not}
+use mathlib.Core.List.{List, [], _∷_}
+use lib.ListN.{length, drop, length-append, length-drop}
+use lib.Dec.{leb}
+use borrow.Author.Tests.{leb-true}
+use Rattle.format.specs.Answer.{Answer, lentWrong, homeCheckWrong, homeFieldsWrong, firstCountMissing, countCheckWrong, countFieldsWrong, spanTooShort, keyWrong, dataWrong, sectorRepeated}
+use Rattle.format.specs.Judged.{Judged, good, refused, then, require, answerOf}
+use Rattle.format.specs.Lent.{lengthRight, lentForReading, cells}
+use Rattle.format.specs.Opening.{startsWith, plainOpening, closedAfter}
+use Rattle.format.specs.Home.{Home, homeFrom, findHome, homeBytes, homeAt, homeFieldsRight, judgeHome, firstCountPlace}
+use Rattle.format.specs.Count.{Settled, unsettled, countFits, countClosed, countFieldsRight}
+use Rattle.format.specs.Block.{keyOffset, dataOffset, blocksFit, keyRight, dataRight}
+use Rattle.format.specs.Span.{joined, none, spans}
+use Rattle.format.specs.Sector.{Sector, openingLength, settle, judgeCount, readBlocks, readSpan}
+use Rattle.format.specs.Accept.{judgeMarks, readSpans, placedFrom, among, judgeNumbers, spansOf, firstCountEnd, acceptCells, accept}
+use Rattle.format.specs.Find.{theKey, theData}
+use Rattle.format.proofs.Judged.{cases, and-both}
+use Rattle.format.proofs.HomeLocal.{home-window}
+use Rattle.format.proofs.StrayMark.{marks-stray}
+use Rattle.format.proofs.Cutting.{joined-spans}
+use Rattle.format.proofs.Pairs.{lent-length}
+use Rattle.format.proofs.FindParts.{block-fits}
+
+-- An answer of the table whose place is 4,002 at most.
+abbrev pub Row : Answer → Type 0
+Row a = (a .number ≤ 16) × (a .place ≤ 4002)
+
+-- What is judged answers so.
+abbrev pub Within : {A : Type 0} → Judged A → Type 0
+Within j = Row (answerOf j)
+
+-- Judging one thing after another answers so, where each does.
+pub within-then : {A B : Type 0} (j : Judged A) (k : A → Judged B) → Within j → ((x : A) → j ≡ good x → Within (k x)) → Within (then j k)
+within-then (good x) k h f = f x refl
+within-then (refused a) k h f = h
+
+-- A test answers so, where its refusal does and what follows it does.
+pub within-require : {A : Type 0} (b : Bool) (a : Answer) (j : Judged A) → Row a → (b ≡ true → Within j) → Within (require b a j)
+within-require b a j h f = cases b (λ e. rw e (f e)) (λ e. rw e h)
+
+-- A track that is lent within the rule has 4,002 cells at most.
+pub cells-few : (t m : List ℕ) → lentForReading t m ≡ true → length (cells t m) ≤ 4002
+unfolding lengthRight
+cells-few t m e =
+    let l = lent-length t m e in
+    let k = and-both (leb 3815 (length t)) (leb (length t) 4002) (l .1) in
+    omega (arith, l .0, leb-true (length t) 4002 (k .1))
+
+-- Home is found before place q + n.
+found-below : (n q : ℕ) (c : List ℕ) (p : ℕ) → homeFrom n q c ≡ good p → p ≤ q + n
+unfolding homeFrom
+found-below zero q c p e = absurd (let z : _≡_ {A = ℕ} 0 1 = cc in omega arith)
+found-below (suc n) q c p e =
+    cases (startsWith plainOpening (drop q c))
+    (λ a. let g : good q ≡ good p = rw a at e in let same : q ≡ p = cc in omega arith)
+    (λ a. let ih = found-below n (suc q) c p (rw a at e) in omega arith)
+
+-- Where home opens nowhere the place is 23.
+missing-within : (n q : ℕ) (c : List ℕ) → Within (homeFrom n q c)
+unfolding homeFrom
+missing-within zero q c = (omega arith, omega arith)
+missing-within (suc n) q c =
+    cases (startsWith plainOpening (drop q c)) (λ a. rw a (omega arith, omega arith)) (λ a. rw a (missing-within n (suc q) c))
+
+-- Home.
+pub home-within : (c : List ℕ) → Within (judgeHome c)
+unfolding judgeHome findHome
+home-within c =
+    within-then (homeFrom 15 23 c) _ (missing-within 15 23 c) (λ p e.
+    let l = found-below 15 23 c p e in
+    within-require (closedAfter 5 (homeBytes p c)) (homeCheckWrong p) _ (omega arith, omega arith) (λ _.
+    within-require (homeFieldsRight (homeAt p c)) (homeFieldsWrong p) _ (omega arith, omega arith) (λ _. (omega arith, omega arith))))
+
+-- The stray mark stands on the track.
+marks-within : (e : ℕ) (c : List ℕ) → length c ≤ 4002 → Within (judgeMarks e 0 0 c)
+marks-within e c l = go (judgeMarks e 0 0 c) refl
+  where
+    go : (j : Judged (Unit {0})) → judgeMarks e 0 0 c ≡ j → Within j
+    go (good u) h = (omega arith, omega arith)
+    go (refused a) h = let s = marks-stray e c a h in rw (s .1) (omega arith, omega (arith, s .2 .within))
+
+-- A count at place p.
+pub count-within : (h : Home) (i : ℕ) (x : Settled) (p : ℕ) (r : List ℕ) → p ≤ 4002 → Within (judgeCount h i x p r)
+unfolding judgeCount
+count-within h i x p r l =
+    within-require (countFits r) (spanTooShort p) _ (omega arith, l) (λ _.
+    within-require (countClosed r) (countCheckWrong p) _ (omega arith, l) (λ _.
+    within-require (countFieldsRight h i x r) (countFieldsWrong p) _ (omega arith, l) (λ _. (omega arith, omega arith))))
+
+-- Its blocks, which open in what follows its opening.
+blocks-within : (first : Bool) (p : ℕ) (last : Bool) (r : List ℕ) → p ≤ 4002 → (1 ≤ length r → p + openingLength first + length r ≤ 4002) → Within (readBlocks first p last r)
+unfolding readBlocks
+blocks-within first p last r k l =
+    within-require (blocksFit last r) (spanTooShort p) _ (omega arith, k) (λ f.
+    let a = block-fits theKey last r f in
+    let b = block-fits theData last r f in
+    let m = l (omega (arith, a)) in
+    within-require (keyRight r) (keyWrong (p + openingLength first + keyOffset)) _ (omega arith, omega arith) (λ _.
+    within-require (dataRight r) (dataWrong (p + openingLength first + dataOffset r)) _ (omega arith, omega arith) (λ _. (omega arith, omega arith))))
+
+-- A sector in its span.
+span-within : (h : Home) (i : ℕ) (x : Settled) (p : ℕ) (last : Bool) (g : List ℕ) → p + length g ≤ 4002 → Within (readSpan h i x p last g)
+unfolding readSpan
+span-within h zero x p last g l =
+    within-require (startsWith plainOpening g) (firstCountMissing p) _ (omega arith, omega arith) (λ _.
+    within-then (judgeCount h 0 x p (drop 6 g)) _ (count-within h 0 x p (drop 6 g) (omega arith)) (λ _ _.
+    blocks-within true p last (drop 6 g) (omega arith) (λ z. omega (arith, length-drop 6 g))))
+span-within h (suc i) x p last g l =
+    within-then (judgeCount h (suc i) x p (drop 8 g)) _ (count-within h (suc i) x p (drop 8 g) (omega arith)) (λ _ _.
+    blocks-within false p last (drop 8 g) (omega arith) (λ z. omega (arith, length-drop 8 g)))
+
+-- The sectors from place p on.
+spans-within : (h : Home) (i : ℕ) (x : Settled) (p : ℕ) (gs : List (List ℕ)) → p + length (joined gs) ≤ 4002 → Within (readSpans h i x p gs)
+unfolding readSpans
+spans-within h i x p [] l = (omega arith, omega arith)
+spans-within h i x p (g ∷ gs) l =
+    let a = length-append g (joined gs) in
+    within-then (readSpan h i x p (none gs) g) _ (span-within h i x p (none gs) g (omega arith)) (λ s _.
+    within-then (readSpans h (suc i) (settle x s) (p + length g) gs) _
+    (spans-within h (suc i) (settle x s) (p + length g) gs (omega arith)) (λ _ _. (omega arith, omega arith)))
+
+-- A repeated number.
+numbers-within : (seen : List ℕ) (p : ℕ) (gs : List (List ℕ)) (ss : List Sector) → p + length (joined gs) ≤ 4002 → Within (judgeNumbers seen (placedFrom p gs ss))
+unfolding judgeNumbers placedFrom
+numbers-within seen p [] ss l = (omega arith, omega arith)
+numbers-within seen p (g ∷ gs) [] l = (omega arith, omega arith)
+numbers-within seen p (g ∷ gs) (s ∷ ss) l =
+    let a = length-append g (joined gs) in
+    within-require (not (among (s .number) seen)) (sectorRepeated p) _ (omega arith, omega arith) (λ _.
+    numbers-within (s .number ∷ seen) (p + length g) gs ss (omega arith))
+
+-- The cells of a track.
+cells-within : (c : List ℕ) → length c ≤ 4002 → Within (acceptCells c)
+unfolding acceptCells
+cells-within c l =
+    within-then (judgeHome c) _ (home-within c) (λ h e.
+    let w = home-window c h e in
+    let p : ℕ = firstCountPlace (h .place) in
+    let j = ap length (joined-spans (drop p c)) in
+    let d : p + length (joined (spans (drop p c))) ≤ 4002 = omega (arith, j, length-drop p c) in
+    within-then (judgeMarks (firstCountEnd (h .place)) 0 0 c) _ (marks-within (firstCountEnd (h .place)) c l) (λ _ _.
+    within-then (readSpans h 0 unsettled p (spansOf h c)) _ (spans-within h 0 unsettled p (spansOf h c) d) (λ ss _.
+    within-then (judgeNumbers [] (placedFrom p (spansOf h c) ss)) _ (numbers-within [] p (spansOf h c) ss d) (λ _ _. (omega arith, omega arith)))))
+
+-- Accept gives a row of the table, and no place beyond 4,002.
+pub accept-within : (t m : List ℕ) → Within (accept t m)
+unfolding accept
+accept-within t m =
+    within-require (lentForReading t m) lentWrong _ (omega arith, omega arith) (λ e. cells-within (cells t m) (cells-few t m e))

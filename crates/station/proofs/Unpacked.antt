@@ -1,0 +1,110 @@
+-- What C takes out of the bits of a result is what the definitions give: no field is cut, and none runs into another.
+use mathlib.Core.Path.{_≡_, refl, subst}
+use Prim.Native.Nat.{ℕ, _+_, _*_, _/_, _%_, _≤_}
+use native.Mathlib.Omega.{arith}
+use mathlib.Core.List.{List}
+use Rattle.format.specs.Answer.{Answer, wantedWrong}
+use Rattle.format.specs.Judged.{Judged, good, refused, answerOf}
+use Rattle.format.specs.Accept.{accept}
+use Rattle.format.specs.Find.{Wanted, Part, find}
+use Rattle.format.specs.Walk.{Visited, step}
+use Rattle.format.specs.PairFind.{ofFirst, pairFind}
+use Rattle.station.specs.Packed.{packedAnswer, packedBounds, packedPart, packedPaired, packedVisited, packedVisit}
+use Rattle.station.proofs.Places.{Row, accept-within}
+use Rattle.station.proofs.Fields.{Inside, Fits, find-inside, pair-inside, step-fits}
+
+-- Bits 0 to 7.
+abbrev pub numberIn : ℕ → ℕ
+numberIn r = r % 256
+
+-- Bit 15.
+abbrev pub whichIn : ℕ → ℕ
+whichIn r = r / 0x8000 % 2
+
+-- Bits 16 to 31.
+abbrev pub placeIn : ℕ → ℕ
+placeIn r = r / 0x10000 % 65536
+
+-- Bits 32 to 47.
+abbrev pub startIn : ℕ → ℕ
+startIn r = r / 0x100000000 % 65536
+
+-- Bits 48 to 63.
+abbrev pub sizeIn : ℕ → ℕ
+sizeIn r = r / 0x1000000000000 % 65536
+
+-- Number and place of a row of the table.
+answer-read : (a : Answer) → Row a → (numberIn (packedAnswer a) ≡ a .number) × (placeIn (packedAnswer a) ≡ a .place)
+unfolding packedAnswer
+answer-read a l = (omega arith, omega arith)
+
+-- Accept's number and place.
+pub accept-read : (t m : List ℕ)
+    → (numberIn (packedAnswer (answerOf (accept t m))) ≡ answerOf (accept t m) .number) × (placeIn (packedAnswer (answerOf (accept t m))) ≡ answerOf (accept t m) .place)
+accept-read t m = answer-read (answerOf (accept t m)) (accept-within t m)
+
+-- The bits of r tell the outcome j and nothing else.
+abbrev pub Tells : ℕ → Judged Part → Type 0
+Tells r (good x) = (numberIn r ≡ 0) × (placeIn r ≡ 0) × (startIn r ≡ x .start) × (sizeIn r ≡ x .size)
+Tells r (refused a) = (numberIn r ≡ a .number) × (placeIn r ≡ a .place) × (startIn r ≡ 0) × (sizeIn r ≡ 0)
+
+-- What stands above the low 48 bits.
+size-above : (q n : ℕ) → q ≤ 0xFFFFFFFFFFFF → n ≤ 4002 → sizeIn (q + n * 0x1000000000000) ≡ n
+size-above q n k l = omega arith
+
+-- The size of a part that is found, with the track in bit 15.
+size-read : (x : Part) → x .start + x .size ≤ 4002 → (b : ℕ) → b ≤ 1 → sizeIn (b * 32768 + packedBounds x) ≡ x .size
+unfolding packedBounds
+size-read x l b k =
+    let q : ℕ = b * 32768 + x .start % 65536 * 0x100000000 in
+    let e : q + x .size * 0x1000000000000 ≡ b * 32768 + packedBounds x = omega arith in
+    subst (λ (r : ℕ). sizeIn r ≡ x .size) e (size-above q (x .size) (omega arith) (omega arith))
+
+-- A result of 32 bits has no size.
+size-none : (r : ℕ) → r ≤ 0xFFFFFFFF → sizeIn r ≡ 0
+size-none r l = omega arith
+
+-- An outcome with the track in bit 15.
+part-read : (j : Judged Part) → Inside j → (b : ℕ) → b ≤ 1 → (whichIn (b * 32768 + packedPart j) ≡ b) × Tells (b * 32768 + packedPart j) j
+unfolding packedPart packedBounds packedAnswer
+part-read (good x) l b k = (omega arith, (omega arith, omega arith, omega arith, size-read x l b k))
+part-read (refused a) l b k = (omega arith, (omega arith, omega arith, omega arith, size-none (b * 32768 + (a .number + a .place % 65536 * 65536)) (omega arith)))
+
+-- Pair find's track, and its part or refusal.
+pub pair-read : (s : ℕ) (w : Wanted) (t m u v : List ℕ)
+    → (whichIn (packedPaired (pairFind s w t m u v)) ≡ pairFind s w t m u v .which) × Tells (packedPaired (pairFind s w t m u v)) (pairFind s w t m u v .outcome)
+unfolding packedPaired
+pair-read s w t m u v = let i = pair-inside s w t m u v in part-read (pairFind s w t m u v .outcome) (i .1) (pairFind s w t m u v .which) (i .0)
+
+-- Find's part or refusal.
+pub find-read : (s : ℕ) (w : Wanted) (t m : List ℕ) → Tells (packedPart (find s w t m)) (find s w t m)
+find-read s w t m =
+    let r : ℕ = packedPart (find s w t m) in
+    let e : 0 * 32768 + r ≡ r = omega arith in
+    subst (λ (n : ℕ). Tells n (find s w t m)) e (part-read (find s w t m) (find-inside s w t m) 0 (omega arith) .1)
+
+-- The bits of r tell what a step comes to: 8 to 15 flag, 16 to 31 place, 32 to 39 S, 40 to 47 KL, 48 to 63 DL.
+abbrev pub TellsStep : ℕ → Judged Visited → Type 0
+TellsStep r (good v) =
+    (numberIn r ≡ 0)
+    × (r / 0x100 % 256 ≡ v .flag)
+    × (placeIn r ≡ v .place)
+    × (r / 0x100000000 % 256 ≡ v .number)
+    × (r / 0x10000000000 % 256 ≡ v .keyLength)
+    × (sizeIn r ≡ v .dataLength)
+TellsStep r (refused a) = (r ≡ a .number) × (a .number ≤ 16) × (a .place ≡ 0)
+
+-- What a step comes to, where each field fits its bits.
+visit-read : (j : Judged Visited) → Fits j → TellsStep (packedVisit j) j
+unfolding packedVisit packedVisited
+visit-read (good v) l = (omega arith, omega arith, omega arith, omega arith, omega arith, omega arith)
+visit-read (refused a) l = (refl, l .0, l .1)
+
+-- Walk's candidate or refusal.
+pub step-read : (p : ℕ) (t m : List ℕ) → TellsStep (packedVisit (step p t m)) (step p t m)
+step-read p t m = visit-read (step p t m) (step-fits p t m)
+
+-- A part that is neither key nor data gives 14 at place 0, and of two tracks it speaks of the first.
+pub other-read : (packedPart (refused wantedWrong) ≡ 14) × (packedPaired (ofFirst (refused wantedWrong)) ≡ 14)
+unfolding packedPart packedPaired packedAnswer
+other-read = (refl, refl)

@@ -1,0 +1,61 @@
+// The calls that write a track: Blank and Correct.
+ghost use mathlib.Core.Path.{_≡_};
+ghost use lib.ListN.{length};
+ghost use Rattle.format.specs.Judged.{answerOf};
+ghost use Rattle.format.specs.Written.{gapOne};
+ghost use Rattle.format.specs.Blank.{blank};
+ghost use Rattle.format.specs.Correct.{correct};
+ghost use Rattle.encode.specs.Room.{addressOf};
+ghost use Rattle.writer.specs.After.{trackAfter, marksAfter};
+ghost use Rattle.station.specs.Packed.{packedAnswer};
+use crate::packed_answer;
+
+// Blank: writes home and sector 0 in the lent pair; a refusal writes nothing.
+#[no_mangle]
+pub extern "C" fn iso3561_blank(
+    track: &mut [u8],
+    marks: &mut [u8],
+    cylinder: u16,
+    head: u16,
+    flag: u8,
+    partner_cylinder: u16,
+    partner_head: u16,
+    sector: u8,
+    key: &[u8],
+    body: &[u8],
+) -> u64
+    ensures answer { λ r. ⌜ r ≡ packedAnswer (answerOf (blank (length (now (track .entry))) (length (now (marks .entry))) (addressOf cylinder head) flag (addressOf «partner_cylinder» «partner_head») sector (now (key .entry)) (now (body .entry)))) ⌝ }
+    ensures bytes { λ _. ⌜ now (track .exit) ≡ trackAfter (blank (length (now (track .entry))) (length (now (marks .entry))) (addressOf cylinder head) flag (addressOf «partner_cylinder» «partner_head») sector (now (key .entry)) (now (body .entry))) (now (track .entry)) ⌝ }
+    ensures marks { λ _. ⌜ now (marks .exit) ≡ marksAfter (blank (length (now (track .entry))) (length (now (marks .entry))) (addressOf cylinder head) flag (addressOf «partner_cylinder» «partner_head») sector (now (key .entry)) (now (body .entry))) (now (marks .entry)) ⌝ }
+{
+    packed_answer(writer::blank(
+        track,
+        marks,
+        cylinder,
+        head,
+        flag,
+        partner_cylinder,
+        partner_head,
+        sector,
+        key,
+        body,
+    ))
+}
+
+// Correct: copies the track into the new pair with a new key and data for one sector; a refusal writes nothing.
+#[no_mangle]
+pub extern "C" fn iso3561_correct(
+    track: &[u8],
+    marks: &[u8],
+    new_track: &mut [u8],
+    new_marks: &mut [u8],
+    sector: u8,
+    key: &[u8],
+    body: &[u8],
+) -> u64
+    ensures answer { λ r. ⌜ r ≡ packedAnswer (answerOf (correct gapOne (now (track .entry)) (now (marks .entry)) (length (now («new_track» .entry))) (length (now («new_marks» .entry))) sector (now (key .entry)) (now (body .entry)))) ⌝ }
+    ensures bytes { λ _. ⌜ now («new_track» .exit) ≡ trackAfter (correct gapOne (now (track .entry)) (now (marks .entry)) (length (now («new_track» .entry))) (length (now («new_marks» .entry))) sector (now (key .entry)) (now (body .entry))) (now («new_track» .entry)) ⌝ }
+    ensures marks { λ _. ⌜ now («new_marks» .exit) ≡ marksAfter (correct gapOne (now (track .entry)) (now (marks .entry)) (length (now («new_track» .entry))) (length (now («new_marks» .entry))) sector (now (key .entry)) (now (body .entry))) (now («new_marks» .entry)) ⌝ }
+{
+    packed_answer(writer::correct(track, marks, new_track, new_marks, sector, key, body))
+}
