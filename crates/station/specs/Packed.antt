@@ -1,6 +1,5 @@
 -- The results of the calls from C: fields packed into one number of 64 bits.
 use Prim.Native.Nat.{ℕ, _+_, _*_, _%_}
-use mathlib.Core.Bool.{Bool}
 use mathlib.Core.List.{List}
 use lib.Dec.{eqb}
 use Rattle.crc.specs.Check.{pick}

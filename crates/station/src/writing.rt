@@ -1,9 +1,10 @@
-// The calls that write a track: Blank and Correct.
+// The calls that write a track: Blank, Add and Correct.
 ghost use mathlib.Core.Path.{_≡_};
 ghost use lib.ListN.{length};
 ghost use Rattle.format.specs.Judged.{answerOf};
 ghost use Rattle.format.specs.Written.{gapOne};
 ghost use Rattle.format.specs.Blank.{blank};
+ghost use Rattle.format.specs.Add.{add};
 ghost use Rattle.format.specs.Correct.{correct};
 ghost use Rattle.encode.specs.Room.{addressOf};
 ghost use Rattle.writer.specs.After.{trackAfter, marksAfter};
@@ -40,6 +41,25 @@ pub extern "C" fn iso3561_blank(
         key,
         body,
     ))
+}
+
+// Add: copies the track into the new pair with one more sector after the last; a refusal writes nothing.
+#[no_mangle]
+pub extern "C" fn iso3561_add(
+    track: &[u8],
+    marks: &[u8],
+    new_track: &mut [u8],
+    new_marks: &mut [u8],
+    b7: u8,
+    sector: u8,
+    key: &[u8],
+    body: &[u8],
+) -> u64
+    ensures answer { λ r. ⌜ r ≡ packedAnswer (answerOf (add gapOne (now (track .entry)) (now (marks .entry)) (length (now («new_track» .entry))) (length (now («new_marks» .entry))) b7 sector (now (key .entry)) (now (body .entry)))) ⌝ }
+    ensures bytes { λ _. ⌜ now («new_track» .exit) ≡ trackAfter (add gapOne (now (track .entry)) (now (marks .entry)) (length (now («new_track» .entry))) (length (now («new_marks» .entry))) b7 sector (now (key .entry)) (now (body .entry))) (now («new_track» .entry)) ⌝ }
+    ensures marks { λ _. ⌜ now («new_marks» .exit) ≡ marksAfter (add gapOne (now (track .entry)) (now (marks .entry)) (length (now («new_track» .entry))) (length (now («new_marks» .entry))) b7 sector (now (key .entry)) (now (body .entry))) (now («new_marks» .entry)) ⌝ }
+{
+    packed_answer(writer::add(track, marks, new_track, new_marks, b7, sector, key, body))
 }
 
 // Correct: copies the track into the new pair with a new key and data for one sector; a refusal writes nothing.

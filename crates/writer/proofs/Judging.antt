@@ -12,12 +12,12 @@ use Rattle.format.specs.Lent.{lentForReading, cells}
 use Rattle.format.specs.Home.{Home}
 use Rattle.format.specs.Accept.{Accepted, acceptCells, accept}
 use Rattle.format.specs.Written.{gapOne, asPair}
-use Rattle.format.specs.Add.{bothLent}
+use Rattle.format.specs.Add.{bothLent, addCells, add}
 use Rattle.format.specs.Correct.{correctCells, correct}
 use Rattle.format.proofs.Judged.{and-both, good-inj, refused-good, then-good}
 use Rattle.sector.specs.declared.fields.Home.{Home as HomeCode}
 use Rattle.sector.specs.As.{asHome}
-use Rattle.writer.specs.Left.{Readable}
+use Rattle.writer.specs.Left.{Readable, ReadableFlag}
 
 -- A track whose home is given is accepted.
 pub judged-readable : (t m : List ℕ) (h : HomeCode) → _≡_ {A = Judged Home} (good (asHome h)) (then (accept t m) (λ a. good (a .home))) → Readable t m (h .place + 25)
@@ -65,3 +65,27 @@ module _ (t m : List ℕ) (l k : ℕ) (e : bothLent t m l k ≡ true) (s : ℕ) 
   pub correct-cells : correct gapOne t m l k s key body ≡ asPair (correctCells gapOne (cells t m) s key body)
   unfolding correct
   correct-cells = rw e
+
+-- The same for Add.
+pub add-lent : (t m : List ℕ) (l k b7 s : ℕ) (key body : List ℕ) → bothLent t m l k ≡ false → add gapOne t m l k b7 s key body ≡ refused lentWrong
+unfolding add
+add-lent t m l k b7 s key body e = rw e
+
+module _ (t m : List ℕ) (l k : ℕ) (e : bothLent t m l k ≡ true) (b7 s : ℕ) (key body : List ℕ) where
+  pub add-refused : (x : Answer) → accept t m ≡ refused x → add gapOne t m l k b7 s key body ≡ refused x
+  unfolding add addCells asPair
+  add-refused x h = rw (e, cells-refused t m l k e x h)
+
+  pub add-cells : add gapOne t m l k b7 s key body ≡ asPair (addCells gapOne (cells t m) b7 s key body)
+  unfolding add
+  add-cells = rw e
+
+-- The flag of a home that is given is that of the accepted track.
+pub judged-flag : (t m : List ℕ) (h : HomeCode) → _≡_ {A = Judged Home} (good (asHome h)) (then (accept t m) (λ a. good (a .home))) → ReadableFlag t m (h .place + 25) (h .flag)
+judged-flag t m h e =
+    let z = then-good (accept t m) (λ a. good (a .home)) (asHome h) (sym e) in
+    let q : z .0 .home ≡ asHome h = good-inj (z .0 .home) (asHome h) (z .2) in
+    record {
+      readable = record { accepted = z .0; is-accepted = z .1; starts = ap (λ (k : Home). k .place + 25) (sym q) };
+      flag-is = ap (λ (k : Home). k .flag) (sym q);
+    }

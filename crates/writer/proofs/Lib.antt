@@ -7,3 +7,4 @@ pub mod Farthest
 pub mod Later
 pub mod Corrected
 pub mod Judging
+pub mod Added

@@ -11,6 +11,7 @@ use Rattle.format.specs.Home.{firstCountPlace}
 use Rattle.format.specs.Span.{joined, none}
 use Rattle.format.specs.Accept.{Placed, Accepted, accept}
 use Rattle.format.specs.Written.{gapOne, reach, writtenSpans}
+use Rattle.format.specs.Add.{fromNumber}
 use Rattle.format.specs.Correct.{withContent, sectorsOf}
 use Rattle.sectors.proofs.From.{SectorsFrom}
 
@@ -19,6 +20,16 @@ pub record Readable (t m : List ℕ) (start : ℕ) : Type 0 where
   pub accepted : Accepted
   pub is-accepted : accept t m ≡ good accepted
   pub starts : start ≡ firstCountPlace (accepted .home .place)
+
+-- Such a track whose home has the flag f.
+pub record ReadableFlag (t m : List ℕ) (start f : ℕ) : Type 0 where
+  pub readable : Readable t m start
+  pub flag-is : f ≡ readable .accepted .home .flag
+
+-- Such a track on which no sector carries S.
+pub record Addable (t m : List ℕ) (start f s : ℕ) : Type 0 where
+  pub flagged : ReadableFlag t m start f
+  pub absent : fromNumber s (flagged .readable .accepted .sectors) ≡ []
 
 -- The sectors from place p on.
 pub record Left (t m : List ℕ) (p : ℕ) (first : Bool) : Type 0 where

@@ -17,9 +17,11 @@ ghost use Rattle.encode.specs.Room.{sectorFrom, sectorSize};
 ghost use Rattle.writer.specs.After.{filledSpan};
 ghost use Rattle.writer.specs.Left.{Left};
 
+pub mod adding;
 pub mod blanking;
 pub mod correcting;
 
+pub use adding::add;
 pub use blanking::blank;
 pub use correcting::correct;
 

@@ -1,0 +1,277 @@
+-- Add on an accepted track: the last sector, the track that is written, and the answers in their order.
+use mathlib.Core.Path.{_≡_, refl, sym, ap, ap₂, _∙_, subst}
+use Prim.Native.Nat.{ℕ, suc, _+_, _-_, _*_, _%_, _≤_, _<_}
+use native.Mathlib.Omega.{arith}
+use mathlib.Core.Bool.{Bool, true, false}
+use mathlib.Core.List.{List, [], _∷_, _++_, append-assoc, append-nil}
+use lib.ListN.{length, take, replicate, length-replicate}
+use lib.Dec.{eqb}
+use borrow.Author.Tests.{eq-eqb, ne-eqb, le-leb, lt-leb}
+use Rattle.format.specs.Answer.{Answer, wantedWrong, sectorRepeated, roomMissing}
+use Rattle.format.specs.Judged.{Judged, good, refused, then, require}
+use Rattle.format.specs.Lent.{cells, bytesOf, marksOf}
+use Rattle.format.specs.Home.{Home}
+use Rattle.format.specs.Span.{joined, none}
+use Rattle.format.specs.Sector.{Sector}
+use Rattle.format.specs.Accept.{Placed, Accepted, acceptCells}
+use Rattle.format.specs.Written.{gapOne, gapAfter, writtenSector, asPair}
+use Rattle.format.specs.Blank.{contentRight}
+use Rattle.format.specs.Add.{endOf, fromNumber, judgeAbsent, addedFlag, addedSector, addedTo, addCells}
+use Rattle.format.proofs.Judged.{false-true}
+use Rattle.format.proofs.Pairs.{pairOf, accepted-pair, length-bytes, length-marks}
+use Rattle.format.proofs.GrownSpans.{lastOf}
+use Rattle.format.proofs.NewSector.{lastEnd, lastGap, addNeed, keptCells, length-kept, added-room}
+use Rattle.sector.specs.declared.fields.Address.{Address as AddressCode}
+use Rattle.sector.specs.As.{asAddress}
+use Rattle.encode.specs.Laid.{laidOver, laidAt}
+use Rattle.encode.specs.Room.{sectorFrom, sectorSize}
+use Rattle.encode.proofs.Cells.{bytes-append, marks-append}
+use Rattle.encode.proofs.Sectors.{sector-length}
+use Rattle.sectors.specs.declared.SectorAt.{SectorAt}
+use Rattle.sectors.specs.Stepped.{Stepped, steppedAt, addressAt, asStepped}
+use Rattle.sectors.proofs.From.{SectorsFrom, accepted-start}
+use Rattle.writer.specs.After.{filledSpan}
+use Rattle.writer.specs.Left.{Readable, Left}
+use Rattle.writer.proofs.Filled.{bytes-gap, marks-gap, filled-length, laid-to-end, take-laid, take-over}
+use Rattle.writer.proofs.Corrected.{FirstLeft, first-left, some-left, readable-steps, readable-left}
+
+-- The sectors x and `later` from place p on: the last of them is `goal`, and the sector behind it stands in a position as odd as n.
+pub record Passing (t m : List ℕ) (start p b8 : ℕ) (goal : Placed) (n : ℕ) : Type 0 where
+  pub x : Placed
+  pub later : List Placed
+  pub steps : SectorsFrom t m p (eqb p start) (x ∷ later)
+  pub last-is : lastOf x later ≡ goal
+  pub parity : (b8 + length later) % 2 ≡ n % 2
+
+-- The way to the last sector has come to place p.
+abbrev pub Passed : List ℕ → List ℕ → ℕ → ℕ → ℕ → Type 0
+Passed t m start p b8 =
+    (start ≤ p) × (p < length t) × (b8 ≤ 1)
+    × ((x : Placed) (xs : List Placed) → SectorsFrom t m start true (x ∷ xs) → Passing t m start p b8 (lastOf x xs) (suc (length xs)))
+
+-- It starts at sector 0.
+pub pass-start : (t m : List ℕ) (start : ℕ) → start < length t → Passed t m start start 1
+pass-start t m start l = (
+  omega arith,
+  l,
+  omega arith,
+  λ x xs f. record {
+    x = x;
+    later = xs;
+    steps = subst (λ (b : Bool). SectorsFrom t m start b (x ∷ xs)) (sym (eq-eqb start start refl)) f;
+    last-is = refl;
+    parity = ap (λ (n : ℕ). n % 2) (omega arith);
+  },
+)
+
+last-made : (t m : List ℕ) (start p b8 : ℕ) (x : Placed) (later : List Placed) (goal : Placed) (n : ℕ) → SectorsFrom t m p (eqb p start) (x ∷ later) → lastOf x later ≡ goal
+    → (b8 + length later) % 2 ≡ n % 2 → b8 ≤ 1 → none later ≡ true → SectorsFrom t m p (eqb p start) (goal ∷ []) × (b8 ≡ n % 2)
+last-made t m start p b8 x [] goal n f g e l o = (subst (λ (z : Placed). SectorsFrom t m p (eqb p start) (z ∷ [])) g f, omega (arith, e))
+last-made t m start p b8 x (y ∷ ys) goal n f g e l o = false-true o
+
+next-made : (t m : List ℕ) (start q b8 : ℕ) (x : Placed) (later : List Placed) (goal : Placed) (n : ℕ) → SectorsFrom t m q false later → eqb q start ≡ false → lastOf x later ≡ goal
+    → (b8 + length later) % 2 ≡ n % 2 → b8 ≤ 1 → none later ≡ false → Passing t m start q (1 - b8) goal n
+next-made t m start q b8 x [] goal n f e g k l o = false-true (sym o)
+next-made t m start q b8 x (y ∷ ys) goal n f e g k l o =
+    record {
+      x = y;
+      later = ys;
+      steps = subst (λ (b : Bool). SectorsFrom t m q b (y ∷ ys)) (sym e) f;
+      last-is = g;
+      parity = omega (arith, k);
+    }
+
+more-inside : (t m : List ℕ) (q : ℕ) (later : List Placed) → SectorsFrom t m q false later → none later ≡ false → q < length (cells t m)
+more-inside t m q [] f o = false-true (sym o)
+more-inside t m q (y ∷ ys) f o = omega (arith, f .0 .span-least, f .0 .span-inside)
+
+module _ (t m : List ℕ) (start p b8 : ℕ) (u : Left t m start true) (low : start < length t) (i : Passed t m start p b8) (s : SectorAt)
+    (e : asStepped s ≡ steppedAt (eqb p start) p (cells t m)) where
+  -- The way that the requirement shows.
+  abbrev head : FirstLeft t m start true
+  head = first-left t m start true u low
+
+  abbrev here : Passing t m start p b8 (lastOf (head .sector) (head .later)) (suc (length (head .later)))
+  here = i .3 (head .sector) (head .later) (head .steps)
+
+  last-here : (goal : Placed) (n : ℕ) (v : Passing t m start p b8 goal n) → s .last ≡ none (v .later)
+  last-here goal n v = ap (λ (z : Stepped). z .last) e ∙ v .steps .0 .last-is
+
+  later-here : (goal : Placed) (n : ℕ) (v : Passing t m start p b8 goal n) → SectorsFrom t m (s .next) false (v .later)
+  later-here goal n v =
+      subst (λ (q : ℕ). SectorsFrom t m q false (v .later)) (sym (ap (λ (z : Stepped). z .next) e ∙ v .steps .0 .next-is)) (v .steps .1)
+
+  -- The span runs to index: it is the last one's.
+  pub pass-last : s .last ≡ true → (x : Placed) (xs : List Placed) → SectorsFrom t m start true (x ∷ xs)
+      → SectorsFrom t m p (eqb p start) (lastOf x xs ∷ []) × (b8 ≡ suc (length xs) % 2)
+  pass-last o x xs f =
+      let v = i .3 x xs f in
+      last-made t m start p b8 (v .x) (v .later) (lastOf x xs) (suc (length xs)) (v .steps) (v .last-is) (v .parity) (i .2) (sym (last-here _ _ v) ∙ o)
+
+  -- Each step goes on.
+  pub pass-onward : p + 49 ≤ s .next
+  pass-onward = omega (arith, ap (λ (z : Stepped). z .next) e, here .steps .0 .next-is, here .steps .0 .span-least)
+
+  -- The span does not: the way goes on at the next one.
+  pub pass-next : s .last ≡ false → Passed t m start (s .next) (1 - b8)
+  pass-next o =
+      let h = pass-onward in
+      let inside : s .next < length (cells t m) = more-inside t m (s .next) (here .later) (later-here _ _ here) (sym (last-here _ _ here) ∙ o) in
+      let first : eqb (s .next) start ≡ false = ne-eqb (s .next) start (λ q. omega (arith, i .0, h, q)) in (
+        omega (arith, i .0, h),
+        omega (arith, inside, u .cells-length),
+        omega (arith, i .2),
+        λ x xs f.
+            let v = i .3 x xs f in
+            next-made t m start (s .next) b8 (v .x) (v .later) (lastOf x xs) (suc (length xs)) (later-here _ _ v) first (v .last-is) (v .parity) (i .2) (sym (last-here _ _ v) ∙ o),
+      )
+
+-- The new track in bytes: the kept front, the gap, and the new sector with the gap to index.
+module _ (end to l : ℕ) (s : Sector) (h : end ≤ to) (room : to + length (writtenSector s) ≤ l) (kept old one two last : List ℕ) (k : length kept ≡ end)
+    (e : one ≡ laidOver kept old) (long1 : length one ≡ l) (long2 : length two ≡ l) where
+  pub added-bytes : two ≡ laidAt end (replicate (to - end) 0xFF) one → last ≡ laidAt to (bytesOf (filledSpan (l - to) s)) two
+      → last ≡ kept ++ bytesOf (replicate (to - end) 0xFF ++ filledSpan (l - to) s)
+  added-bytes f g =
+      let w : List ℕ = filledSpan (l - to) s in
+      let z : List ℕ = replicate (to - end) 0xFF in
+      let n : length (bytesOf w) ≡ l - to = length-bytes w ∙ filled-length (l - to) s (omega arith) in
+      g ∙ laid-to-end to (bytesOf w) two (omega (arith, n))
+      ∙ ap (λ (y : List ℕ). y ++ bytesOf w)
+      (ap (take to) f ∙ take-laid end to z one (omega arith) (omega (arith, length-replicate {A = ℕ} (to - end) 0xFF))
+      ∙ ap₂ (λ (y v : List ℕ). y ++ v) (ap (take end) e ∙ take-over end kept old k) (sym (bytes-gap (to - end))))
+      ∙ append-assoc kept (bytesOf z) (bytesOf w) ∙ ap (λ (y : List ℕ). kept ++ y) (sym (bytes-append z w))
+
+  pub added-marks : two ≡ laidAt end (replicate (to - end) 0) one → last ≡ laidAt to (marksOf (filledSpan (l - to) s)) two
+      → last ≡ kept ++ marksOf (replicate (to - end) 0xFF ++ filledSpan (l - to) s)
+  added-marks f g =
+      let w : List ℕ = filledSpan (l - to) s in
+      let z : List ℕ = replicate (to - end) 0xFF in
+      let n : length (marksOf w) ≡ l - to = length-marks w ∙ filled-length (l - to) s (omega arith) in
+      g ∙ laid-to-end to (marksOf w) two (omega (arith, n))
+      ∙ ap (λ (y : List ℕ). y ++ marksOf w)
+      (ap (take to) f ∙ take-laid end to (replicate (to - end) 0) one (omega arith) (omega (arith, length-replicate {A = ℕ} (to - end) 0))
+      ∙ ap₂ (λ (y v : List ℕ). y ++ v) (ap (take end) e ∙ take-over end kept old k) (sym (marks-gap (to - end))))
+      ∙ append-assoc kept (marksOf z) (marksOf w) ∙ ap (λ (y : List ℕ). kept ++ y) (sym (marks-append z w))
+
+-- Add on an accepted track, by its tests in their order.
+module _ (t m : List ℕ) (start : ℕ) (r : Readable t m start) (b7 s : ℕ) (key body : List ℕ) where
+  abbrev c : List ℕ
+  c = cells t m
+
+  judged : acceptCells c ≡ good (r .accepted)
+  judged = accepted-pair t m (r .accepted) (r .is-accepted) .1
+
+  -- 14 where B7 is no bit,
+  pub add-overflow : 1 < b7 → asPair (addCells gapOne c b7 s key body) ≡ refused wantedWrong
+  unfolding addCells asPair
+  add-overflow h = rw (judged, lt-leb b7 1 h)
+
+  module _ (bit : b7 ≤ 1) where
+    -- or the content is out of rule.
+    pub add-wanted : contentRight key body ≡ false → asPair (addCells gapOne c b7 s key body) ≡ refused wantedWrong
+    unfolding addCells asPair
+    add-wanted e = rw (judged, le-leb b7 1 bit, e)
+
+    module _ (right : contentRight key body ≡ true) where
+      -- 13 where a sector carries S.
+      pub add-repeated : (x : Placed) (xs : List Placed) (q : ℕ) → fromNumber s (r .accepted .sectors) ≡ x ∷ xs → x .place ≡ q
+          → asPair (addCells gapOne c b7 s key body) ≡ refused (sectorRepeated q)
+      unfolding addCells judgeAbsent asPair
+      add-repeated x xs q e at = rw (judged, le-leb b7 1 bit, right, e, at)
+
+      -- What Add writes behind the sectors x and xs, the last of which ends at `end` and has the gap up to `to`.
+      module _ (absent : fromNumber s (r .accepted .sectors) ≡ []) (x : Placed) (xs : List Placed) (all : r .accepted .sectors ≡ x ∷ xs) (end to : ℕ)
+          (end-is : end ≡ endOf (lastOf x xs)) (to-is : to ≡ end + gapAfter gapOne (lastOf x xs .sector)) (low : end ≤ length c) where
+        abbrev pub new : Sector
+        new = addedSector (r .accepted .home) (suc (0 + length xs)) (lastOf x xs) b7 s key body
+
+        add-is : addCells gapOne c b7 s key body ≡ addedTo gapOne c (r .accepted .home) 0 b7 s key body (x ∷ xs)
+        unfolding addCells judgeAbsent
+        add-is = rw (judged, le-leb b7 1 bit, right, absent, all)
+
+        need-is : addNeed gapOne (x ∷ xs) key body ≡ to + sectorSize false (length key) (length body) + 13
+        unfolding sectorSize
+        need-is = omega (arith, end-is, to-is)
+
+        -- 15 where its block would end later than 13 bytes before index.
+        pub add-short : length c < to + sectorSize false (length key) (length body) + 13 → asPair (addCells gapOne c b7 s key body) ≡ refused roomMissing
+        unfolding asPair
+        add-short h =
+            ap asPair (add-is ∙ added-room gapOne c (r .accepted .home) 0 b7 s key body x xs (omega (arith, end-is)))
+            ∙ rw (need-is, lt-leb (to + sectorSize false (length key) (length body) + 13) (length c) h)
+
+        whole-is : keptCells gapOne c (x ∷ xs) ++ joined ((writtenSector new ++ replicate (length c - length (keptCells gapOne c (x ∷ xs)) - length (writtenSector new)) 0xFF) ∷ [])
+            ≡ take end c ++ (replicate (to - end) 0xFF ++ filledSpan (length c - to) new)
+        unfolding filledSpan
+        whole-is =
+            let k : length (keptCells gapOne c (x ∷ xs)) ≡ to = length-kept gapOne c (x ∷ xs) (omega (arith, end-is)) ∙ omega (arith, end-is, to-is) in
+            let g : gapAfter gapOne (lastOf x xs .sector) ≡ to - end = omega (arith, to-is) in
+            let w : List ℕ = writtenSector new in
+            append-assoc (take (endOf (lastOf x xs)) c) (replicate (gapAfter gapOne (lastOf x xs .sector)) 0xFF) ((w ++ replicate (length c - length (keptCells gapOne c (x ∷ xs)) - length w) 0xFF) ++ [])
+            ∙ ap (λ (z : List ℕ). take (endOf (lastOf x xs)) c ++ (replicate (gapAfter gapOne (lastOf x xs .sector)) 0xFF ++ z))
+            (append-nil (w ++ replicate (length c - length (keptCells gapOne c (x ∷ xs)) - length w) 0xFF)
+            ∙ ap (λ (n : ℕ). w ++ replicate (length c - n - length w) 0xFF) k)
+            ∙ ap₂ (λ (i j : ℕ). take i c ++ (replicate j 0xFF ++ (w ++ replicate (length c - to - length w) 0xFF))) (sym end-is) g
+
+        -- Else the new track.
+        pub add-done : to + sectorSize false (length key) (length body) + 13 ≤ length c
+            → asPair (addCells gapOne c b7 s key body) ≡ good (pairOf (take end c ++ (replicate (to - end) 0xFF ++ filledSpan (length c - to) new)))
+        unfolding asPair
+        add-done h =
+            ap asPair (add-is ∙ added-room gapOne c (r .accepted .home) 0 b7 s key body x xs (omega (arith, end-is)))
+            ∙ rw (need-is, le-leb (to + sectorSize false (length key) (length body) + 13) (length c) h) (ap (λ (z : List ℕ). good (pairOf z)) whole-is)
+
+-- The sector that is written behind the sector x at place p, of which s and a were read there.
+pub added-made : (t m : List ℕ) (p : ℕ) (first : Bool) (x : Placed) → SectorsFrom t m p first (x ∷ []) → (h : Home) (i : ℕ) (a : AddressCode) (flag b7 s : ℕ) (key body : List ℕ)
+    → asAddress a ≡ addressAt first p (cells t m) → flag ≡ addedFlag (h .flag) i b7
+    → sectorFrom false flag (a .cylinder) (a .head) s key body ≡ addedSector h i x b7 s key body
+unfolding addedSector
+added-made t m p first x f h i a flag b7 s key body ad fl =
+    let n : asAddress a ≡ x .sector .address = ad ∙ f .0 .address-is in
+    λ j. record { first = false; flag = fl j; address = n j; number = s; keyBytes = key; dataBytes = body }
+
+-- The sector y stands last, at place p, and s is what was read there.
+module _ (t m : List ℕ) (p : ℕ) (first : Bool) (y : Placed) (f : SectorsFrom t m p first (y ∷ [])) (s : SectorAt)
+    (e : asStepped s ≡ steppedAt first p (cells t m)) where
+  key-read : s .«key_length» ≡ length (y .sector .keyBytes)
+  key-read = ap (λ (z : Stepped). z .keyLength) e ∙ f .0 .key-length-is
+
+  data-read : s .«data_length» ≡ length (y .sector .dataBytes)
+  data-read = ap (λ (z : Stepped). z .dataLength) e ∙ f .0 .data-length-is
+
+  -- KL and DL fit their bytes.
+  pub last-lengths : (s .«key_length» ≤ 255) × (s .«data_length» ≤ 65535)
+  last-lengths = (omega (arith, key-read, f .0 .fits .key-fits), omega (arith, data-read, f .0 .fits .data-fits))
+
+  -- Where its block ends,
+  pub last-end : s .end ≡ endOf y
+  last-end = ap (λ (z : Stepped). z .end) e ∙ f .0 .end-is
+
+  -- which gap follows,
+  pub last-gap : gapOne (s .«key_length») (s .«data_length») ≡ gapAfter gapOne (y .sector)
+  unfolding gapAfter
+  last-gap = ap₂ gapOne key-read data-read
+
+  -- and that it ends on the track.
+  pub last-inside : s .end + 13 ≤ length (cells t m)
+  last-inside = omega (arith, last-end, f .0 .end-inside, f .0 .span-inside)
+
+-- All sectors of a readable track, of which there is at least one.
+pub record AllSectors (t m : List ℕ) (start : ℕ) (r : Readable t m start) : Type 0 where
+  pub x : Placed
+  pub xs : List Placed
+  pub all : r .accepted .sectors ≡ x ∷ xs
+  pub steps : SectorsFrom t m start true (x ∷ xs)
+
+-- Sector 0 opens on the track.
+pub readable-low : (t m : List ℕ) (start : ℕ) → Readable t m start → start < length t
+readable-low t m start r =
+    let z = accepted-start t m (r .accepted) (r .is-accepted) in
+    omega (arith, z .start-most, z .length-least, r .starts)
+
+pub all-sectors : (t m : List ℕ) (start : ℕ) (r : Readable t m start) → AllSectors t m start r
+all-sectors t m start r =
+    let f = readable-steps t m start r in
+    let u = readable-left t m start r in
+    let z = some-left t m start true (r .accepted .sectors) f (omega (arith, readable-low t m start r, u .cells-length)) in
+    record { x = z .0; xs = z .1 .0; all = z .1 .1; steps = subst (SectorsFrom t m start true) (z .1 .1) f }

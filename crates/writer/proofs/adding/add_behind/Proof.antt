@@ -1,0 +1,253 @@
+-- `add_behind` meets its contract: 15 before anything is written, then the new track.
+use mathlib.Core.Path.{_≡_, refl, sym, ap, ap₂, _∙_}
+use Prim.Native.Nat.{ℕ, suc, _+_, _-_, _%_, _≤_, _<_}
+use native.Mathlib.Omega.{arith}
+use mathlib.Core.Bool.{true, false}
+use mathlib.Core.List.{List, [], _∷_, _++_}
+use lib.ListN.{length, take, replicate}
+use lib.Dec.{eqb}
+use Rattle.format.specs.Lent.{cells, unmarked}
+use Rattle.format.specs.Sector.{Sector}
+use Rattle.format.specs.Written.{gapOne, gapAfter}
+use Rattle.format.specs.Add.{endOf, addedFlag, addedSector}
+use Rattle.format.proofs.GrownSpans.{lastOf}
+use Rattle.encode.specs.Room.{sectorFrom, sectorSize}
+use Rattle.encode.proofs.Cells.{unmarked-bytes}
+use Rattle.sectors.proofs.From.{SectorsFrom}
+use Rattle.writer.specs.After.{filledSpan}
+use Rattle.writer.proofs.Outcome.{after-refused, after-good}
+use Rattle.writer.proofs.Filled.{content-bounds, size-most}
+use Rattle.writer.proofs.Corrected.{readable-left, readable-lengths, kept-bytes, kept-marks}
+use Rattle.writer.proofs.Added.{readable-low, all-sectors, last-lengths, last-end, last-gap, last-inside, added-made, add-short, add-done}
+use borrow.Author.Needs.{needs}
+use Rattle.writer.proofs.adding.add_behind.Statement.{statement}
+use Rattle.writer.proofs.adding.add_behind.Tie as tie
+
+last-of-requires : tie.Need-last-of-requires
+last-of-requires c κs =
+    let a = c .before .before .before .before .before .before .args in
+    let t = a .track .now in
+    let m = a .marks .now in
+    let r = c .before .before .before .before .before .before .pre .0 .flagged .readable in
+    (readable-left t m (a .start) r, readable-low t m (a .start) r)
+
+sector-at-requires : tie.Need-sector-at-requires
+sector-at-requires c κs = search needs
+
+cast-gap-one : tie.Need-cast-gap-one
+cast-gap-one c =
+    let a = c .before .before .before .before .before .before .before .before .before .args in
+    let t = a .track .now in
+    let m = a .marks .now in
+    let r = c .before .before .before .before .before .before .before .before .before .pre .0 .flagged .readable in
+    let z = all-sectors t m (a .start) r in
+    let last = c .before .before .last-of in
+    let p = last .result .place in
+    let y = lastOf (z .x) (z .xs) in
+    let f : SectorsFrom t m p (eqb p (a .start)) (lastOf (z .x) (z .xs) ∷ []) = last .ensures (z .x) (z .xs) (z .steps) .0 in
+    let x = c .before .sector-at in
+    let h = last-lengths t m p (eqb p (a .start)) y f (x .result) (x .ensures) in
+    omega (arith, h)
+
+cast-gap-one-2 : tie.Need-cast-gap-one-2
+cast-gap-one-2 c =
+    let a = c .before .before .before .before .before .before .before .before .before .before .args in
+    let t = a .track .now in
+    let m = a .marks .now in
+    let r = c .before .before .before .before .before .before .before .before .before .before .pre .0 .flagged .readable in
+    let z = all-sectors t m (a .start) r in
+    let last = c .before .before .before .last-of in
+    let p = last .result .place in
+    let y = lastOf (z .x) (z .xs) in
+    let f : SectorsFrom t m p (eqb p (a .start)) (lastOf (z .x) (z .xs) ∷ []) = last .ensures (z .x) (z .xs) (z .steps) .0 in
+    let x = c .before .before .sector-at in
+    let h = last-lengths t m p (eqb p (a .start)) y f (x .result) (x .ensures) in
+    omega (arith, h)
+
+gap-one-requires : tie.Need-gap-one-requires
+gap-one-requires c κs = search needs
+
+add-to : tie.Need-add-to
+unfolding gapOne
+add-to c =
+    let a = c .before .before .before .before .before .before .before .before .before .before .before .args in
+    let t = a .track .now in
+    let m = a .marks .now in
+    let r = c .before .before .before .before .before .before .before .before .before .before .before .pre .0 .flagged .readable in
+    let z = all-sectors t m (a .start) r in
+    let last = c .before .before .before .before .last-of in
+    let p = last .result .place in
+    let y = lastOf (z .x) (z .xs) in
+    let f : SectorsFrom t m p (eqb p (a .start)) (lastOf (z .x) (z .xs) ∷ []) = last .ensures (z .x) (z .xs) (z .steps) .0 in
+    let x = c .before .before .before .sector-at in
+    omega (arith, c .gap-one .ensures, last-lengths t m p (eqb p (a .start)) y f (x .result) (x .ensures), last-inside t m p (eqb p (a .start)) y f (x .result) (x .ensures), readable-left t m (a .start) r .cells-length, readable-left t m (a .start) r .length-most)
+
+cast-sector-size : tie.Need-cast-sector-size
+cast-sector-size c =
+    let a = c .before .before .before .before .before .before .before .before .before .before .before .args in
+    let h = content-bounds (a .key .now) (a .body .now) (c .before .before .before .before .before .before .before .before .before .before .before .pre .1 .0 .1) in
+    omega (arith, h)
+
+cast-sector-size-2 : tie.Need-cast-sector-size-2
+cast-sector-size-2 c =
+    let a = c .before .before .before .before .before .before .before .before .before .before .before .args in
+    let h = content-bounds (a .key .now) (a .body .now) (c .before .before .before .before .before .before .before .before .before .before .before .pre .1 .0 .1) in
+    omega (arith, h)
+
+sector-size-requires : tie.Need-sector-size-requires
+sector-size-requires c κs = search needs
+
+add-if1 : tie.Need-add-if1
+unfolding gapOne
+add-if1 c =
+    let a = c .before .before .before .before .before .before .before .before .before .before .before .before .args in
+    let t = a .track .now in
+    let m = a .marks .now in
+    let r = c .before .before .before .before .before .before .before .before .before .before .before .before .pre .0 .flagged .readable in
+    let z = all-sectors t m (a .start) r in
+    let last = c .before .before .before .before .before .last-of in
+    let p = last .result .place in
+    let y = lastOf (z .x) (z .xs) in
+    let f : SectorsFrom t m p (eqb p (a .start)) (lastOf (z .x) (z .xs) ∷ []) = last .ensures (z .x) (z .xs) (z .steps) .0 in
+    let x = c .before .before .before .before .sector-at in
+    let h = content-bounds (a .key .now) (a .body .now) (c .before .before .before .before .before .before .before .before .before .before .before .before .pre .1 .0 .1) in
+    omega (arith, h, c .before .gap-one .ensures, c .sector-size .ensures, size-most false (length (a .key .now)) (length (a .body .now)), last-lengths t m p (eqb p (a .start)) y f (x .result) (x .ensures), last-inside t m p (eqb p (a .start)) y f (x .result) (x .ensures), readable-left t m (a .start) r .cells-length, readable-left t m (a .start) r .length-most)
+
+add-if1-2 : tie.Need-add-if1-2
+unfolding gapOne
+add-if1-2 c =
+    let a = c .before .before .before .before .before .before .before .before .before .before .before .before .args in
+    let t = a .track .now in
+    let m = a .marks .now in
+    let r = c .before .before .before .before .before .before .before .before .before .before .before .before .pre .0 .flagged .readable in
+    let z = all-sectors t m (a .start) r in
+    let last = c .before .before .before .before .before .last-of in
+    let p = last .result .place in
+    let y = lastOf (z .x) (z .xs) in
+    let f : SectorsFrom t m p (eqb p (a .start)) (lastOf (z .x) (z .xs) ∷ []) = last .ensures (z .x) (z .xs) (z .steps) .0 in
+    let x = c .before .before .before .before .sector-at in
+    let h = content-bounds (a .key .now) (a .body .now) (c .before .before .before .before .before .before .before .before .before .before .before .before .pre .1 .0 .1) in
+    omega (arith, h, c .before .gap-one .ensures, c .sector-size .ensures, size-most false (length (a .key .now)) (length (a .body .now)), last-lengths t m p (eqb p (a .start)) y f (x .result) (x .ensures), last-inside t m p (eqb p (a .start)) y f (x .result) (x .ensures), readable-left t m (a .start) r .cells-length, readable-left t m (a .start) r .length-most)
+
+room-missing-requires : tie.Need-room-missing-requires
+room-missing-requires c κs = search needs
+
+returns : tie.Need-returns
+returns c =
+    let a = c .before .before .before .before .before .before .before .before .before .before .before .before .before .before .args in
+    let t = a .track .now in
+    let m = a .marks .now in
+    let r = c .before .before .before .before .before .before .before .before .before .before .before .before .before .before .pre .0 .flagged .readable in
+    let z = all-sectors t m (a .start) r in
+    let last = c .before .before .before .before .before .before .before .last-of in
+    let p = last .result .place in
+    let y = lastOf (z .x) (z .xs) in
+    let f : SectorsFrom t m p (eqb p (a .start)) (lastOf (z .x) (z .xs) ∷ []) = last .ensures (z .x) (z .xs) (z .steps) .0 in
+    let x = c .before .before .before .before .before .before .sector-at in
+    after-refused _ _ _ (a .new-track .now) (a .new-marks .now)
+    (add-short t m (a .start) r (a .b7) (a .s) (a .key .now) (a .body .now) (c .before .before .before .before .before .before .before .before .before .before .before .before .before .before .pre .1 .0 .0) (c .before .before .before .before .before .before .before .before .before .before .before .before .before .before .pre .1 .0 .1) (c .before .before .before .before .before .before .before .before .before .before .before .before .before .before .pre .0 .absent) (z .x) (z .xs) (z .all) (x .result .end) (x .result .end + c .before .before .before .gap-one .result)
+    (last-end t m p (eqb p (a .start)) y f (x .result) (x .ensures)) (ap (λ (n : ℕ). x .result .end + n) (c .before .before .before .gap-one .ensures ∙ last-gap t m p (eqb p (a .start)) y f (x .result) (x .ensures))) (omega (arith, last-inside t m p (eqb p (a .start)) y f (x .result) (x .ensures)))
+    (omega (arith, c .before .if1 .taken, c .before .before .sector-size .ensures, readable-left t m (a .start) r .cells-length)))
+    (c .room-missing .ensures)
+
+address-at-requires : tie.Need-address-at-requires
+address-at-requires c κs = search needs
+
+added-flag-requires : tie.Need-added-flag-requires
+added-flag-requires c κs =
+    let a = c .before .before .before .before .before .before .before .before .before .before .before .before .before .before .args in
+    let t = a .track .now in
+    let m = a .marks .now in
+    let r = c .before .before .before .before .before .before .before .before .before .before .before .before .before .before .pre .0 .flagged .readable in
+    let z = all-sectors t m (a .start) r in
+    let last = c .before .before .before .before .before .before .before .last-of in
+    let p = last .result .place in
+    let y = lastOf (z .x) (z .xs) in
+    let f : SectorsFrom t m p (eqb p (a .start)) (lastOf (z .x) (z .xs) ∷ []) = last .ensures (z .x) (z .xs) (z .steps) .0 in
+    (omega (arith, last .ensures (z .x) (z .xs) (z .steps) .1), c .before .before .before .before .before .before .before .before .before .before .before .before .before .before .pre .1 .0 .0)
+
+write-added-requires : tie.Need-write-added-requires
+write-added-requires c κs =
+    let a = c .before .before .before .before .before .before .before .before .before .before .before .before .before .before .before .before .before .args in
+    let t = a .track .now in
+    let m = a .marks .now in
+    let r = c .before .before .before .before .before .before .before .before .before .before .before .before .before .before .before .before .before .pre .0 .flagged .readable in
+    let z = all-sectors t m (a .start) r in
+    let last = c .before .before .before .before .before .before .before .before .before .before .last-of in
+    let p = last .result .place in
+    let y = lastOf (z .x) (z .xs) in
+    let f : SectorsFrom t m p (eqb p (a .start)) (lastOf (z .x) (z .xs) ∷ []) = last .ensures (z .x) (z .xs) (z .steps) .0 in
+    let x = c .before .before .before .before .before .before .before .before .before .sector-at in
+    let k = readable-lengths t m (a .start) r in
+    let long = c .before .before .before .before .before .before .before .before .before .before .before .before .before .before .before .before .before .pre .1 .1 in
+    (content-bounds (a .key .now) (a .body .now) (c .before .before .before .before .before .before .before .before .before .before .before .before .before .before .before .before .before .pre .1 .0 .1), ((omega arith, omega (arith, c .before .before .before .before .if1 .left, c .before .before .before .before .before .sector-size .ensures)), (k .1, long .0, long .1)))
+
+done-requires : tie.Need-done-requires
+done-requires c κs = search needs
+
+same-length : tie.Need-same-length
+same-length c = search needs
+
+same-length-2 : tie.Need-same-length-2
+same-length-2 c = search needs
+
+returns-2 : tie.Need-returns-2
+returns-2 c =
+    let a = c .before .before .before .before .before .before .before .before .before .before .before .before .before .before .before .before .before .before .before .before .before .before .before .args in
+    let t = a .track .now in
+    let m = a .marks .now in
+    let r = c .before .before .before .before .before .before .before .before .before .before .before .before .before .before .before .before .before .before .before .before .before .before .before .pre .0 .flagged .readable in
+    let z = all-sectors t m (a .start) r in
+    let last = c .before .before .before .before .before .before .before .before .before .before .before .before .before .before .before .before .last-of in
+    let p = last .result .place in
+    let y = lastOf (z .x) (z .xs) in
+    let f : SectorsFrom t m p (eqb p (a .start)) (lastOf (z .x) (z .xs) ∷ []) = last .ensures (z .x) (z .xs) (z .steps) .0 in
+    let x = c .before .before .before .before .before .before .before .before .before .before .before .before .before .before .before .sector-at in
+    let u = readable-left t m (a .start) r in
+    let k = readable-lengths t m (a .start) r in
+    let end = x .result .end in
+    let to = end + c .before .before .before .before .before .before .before .before .before .before .before .before .gap-one .result in
+    let h = r .accepted .home in
+    let ad = c .before .before .before .before .before .before .before .before .before .address-at in
+    let wrote = c .before .before .before .before .before .write-added in
+    let b8 : last .result .b8 ≡ suc (0 + length (z .xs)) % 2 = last .ensures (z .x) (z .xs) (z .steps) .1 ∙ ap (λ (n : ℕ). suc n % 2) (omega arith) in
+    let flag : c .before .before .before .before .before .before .before .before .added-flag .result ≡ addedFlag (h .flag) (suc (0 + length (z .xs))) (a .b7) =
+    c .before .before .before .before .before .before .before .before .added-flag .ensures (suc (0 + length (z .xs))) b8 ∙ ap (λ (n : ℕ). addedFlag n (suc (0 + length (z .xs))) (a .b7)) (c .before .before .before .before .before .before .before .before .before .before .before .before .before .before .before .before .before .before .before .before .before .before .before .pre .0 .flagged .flag-is) in
+    let made : sectorFrom false (c .before .before .before .before .before .before .before .before .added-flag .result) (ad .result .cylinder) (ad .result .head) (a .s) (a .key .now) (a .body .now)
+    ≡ addedSector h (suc (0 + length (z .xs))) (lastOf (z .x) (z .xs)) (a .b7) (a .s) (a .key .now) (a .body .now) =
+    added-made t m p (eqb p (a .start)) y f h (suc (0 + length (z .xs))) (ad .result) (c .before .before .before .before .before .before .before .before .added-flag .result) (a .b7) (a .s) (a .key .now) (a .body .now) (ad .ensures) flag in
+    let W : ℕ → Sector → List ℕ = λ l n. replicate (to - end) 0xFF ++ filledSpan (l - to) n in
+    let same = ap₂ W (sym (u .cells-length)) made in
+    let bytes : unmarked t ≡ true = unmarked-bytes t (λ i. omega (arith, c .before .before .before .before .before .before .before .before .before .before .before .before .before .before .before .before .before .before .before .before .before .before .shared-slice-known .given i)) in
+    after-good _ _ _ (a .new-track .now) (a .new-marks .now) (wrote .last .1 .1 .0) (wrote .last .1 .1 .1 .0)
+    (add-done t m (a .start) r (a .b7) (a .s) (a .key .now) (a .body .now) (c .before .before .before .before .before .before .before .before .before .before .before .before .before .before .before .before .before .before .before .before .before .before .before .pre .1 .0 .0) (c .before .before .before .before .before .before .before .before .before .before .before .before .before .before .before .before .before .before .before .before .before .before .before .pre .1 .0 .1) (c .before .before .before .before .before .before .before .before .before .before .before .before .before .before .before .before .before .before .before .before .before .before .before .pre .0 .absent) (z .x) (z .xs) (z .all) (x .result .end) (x .result .end + c .before .before .before .before .before .before .before .before .before .before .before .before .gap-one .result)
+    (last-end t m p (eqb p (a .start)) y f (x .result) (x .ensures)) (ap (λ (n : ℕ). x .result .end + n) (c .before .before .before .before .before .before .before .before .before .before .before .before .gap-one .ensures ∙ last-gap t m p (eqb p (a .start)) y f (x .result) (x .ensures))) (omega (arith, last-inside t m p (eqb p (a .start)) y f (x .result) (x .ensures)))
+    (omega (arith, c .before .before .before .before .before .before .before .before .before .before .if1 .left, c .before .before .before .before .before .before .before .before .before .before .before .sector-size .ensures, u .cells-length)))
+    (c .done .ensures)
+    (kept-bytes end t m _ _ (wrote .last .1 .1 .0) (k .1) bytes same (wrote .ensures .0))
+    (kept-marks end t m _ _ (wrote .last .1 .1 .1 .0) (k .1) bytes same (wrote .ensures .1))
+
+pub add-behind-spec : {M : Type 1} → statement M
+add-behind-spec =
+    tie.close
+    (tie.spec
+    last-of-requires
+    sector-at-requires
+    cast-gap-one
+    cast-gap-one-2
+    gap-one-requires
+    add-to
+    cast-sector-size
+    cast-sector-size-2
+    sector-size-requires
+    add-if1
+    add-if1-2
+    room-missing-requires
+    returns
+    address-at-requires
+    added-flag-requires
+    write-added-requires
+    done-requires
+    same-length
+    same-length-2
+    returns-2)

@@ -1,0 +1,101 @@
+-- `add_on` meets its contract: 14 and 13 before anything is written, then Add behind the last sector.
+use mathlib.Core.Path.{_≡_, sym, _∙_}
+use native.Mathlib.Omega.{arith}
+use mathlib.Core.Bool.{true, false}
+use lib.ListN.{length}
+use borrow.Author.Tests.{not-true, not-false}
+use Rattle.writer.proofs.Outcome.{after-refused}
+use Rattle.writer.proofs.Corrected.{readable-steps, readable-left, found-at, found-none}
+use Rattle.writer.proofs.Added.{add-overflow, add-wanted, add-repeated}
+use borrow.Author.Needs.{needs}
+use Rattle.writer.proofs.adding.add_on.Statement.{statement}
+use Rattle.writer.proofs.adding.add_on.Tie as tie
+
+wanted-wrong-requires : tie.Need-wanted-wrong-requires
+wanted-wrong-requires c κs = search needs
+
+returns : tie.Need-returns
+returns c =
+    let a = c .before .before .before .before .before .before .before .before .args in
+    let t = a .track .now in
+    let m = a .marks .now in
+    let r = c .before .before .before .before .before .before .before .before .pre .0 .readable in
+    after-refused _ _ _ (a .new-track .now) (a .new-marks .now) (add-overflow t m (a .start) r (a .b7) (a .s) (a .key .now) (a .body .now) (c .before .if1 .taken)) (c .wanted-wrong .ensures)
+
+content-right-requires : tie.Need-content-right-requires
+content-right-requires c κs = search needs
+
+wanted-wrong-requires-2 : tie.Need-wanted-wrong-requires-2
+wanted-wrong-requires-2 c κs = search needs
+
+returns-2 : tie.Need-returns-2
+returns-2 c =
+    let a = c .before .before .before .before .before .before .before .before .before .before .args in
+    let t = a .track .now in
+    let m = a .marks .now in
+    let r = c .before .before .before .before .before .before .before .before .before .before .pre .0 .readable in
+    after-refused _ _ _ (a .new-track .now) (a .new-marks .now)
+    (add-wanted t m (a .start) r (a .b7) (a .s) (a .key .now) (a .body .now) (c .before .before .before .if1 .left) (sym (c .before .before .content-right .ensures) ∙ not-true _ (c .before .if2 .taken))) (c .wanted-wrong2 .ensures)
+
+place-of-requires : tie.Need-place-of-requires
+place-of-requires c κs =
+    let a = c .before .before .before .before .before .before .before .before .before .args in
+    let t = a .track .now in
+    let m = a .marks .now in
+    let r = c .before .before .before .before .before .before .before .before .before .pre .0 .readable in
+    readable-left t m (a .start) r
+
+sector-repeated-requires : tie.Need-sector-repeated-requires
+sector-repeated-requires c κs = search needs
+
+returns-3 : tie.Need-returns-3
+returns-3 c =
+    let a = c .before .before .before .before .before .before .before .before .before .before .before .before .args in
+    let t = a .track .now in
+    let m = a .marks .now in
+    let r = c .before .before .before .before .before .before .before .before .before .before .before .before .pre .0 .readable in
+    let q = c .before .before .place-of .result in
+    let z = found-at t m (a .start) q (a .s) r (c .before .before .place-of .ensures (r .accepted .sectors) (readable-steps t m (a .start) r)) (c .before .if3 .taken) in
+    after-refused _ _ _ (a .new-track .now) (a .new-marks .now)
+    (add-repeated t m (a .start) r (a .b7) (a .s) (a .key .now) (a .body .now) (c .before .before .before .before .before .if1 .left) (sym (c .before .before .before .before .content-right .ensures) ∙ not-false _ (c .before .before .before .if2 .left)) (z .sector) (z .later) q (z .split) (z .place-is))
+    (c .sector-repeated .ensures)
+
+add-behind-requires : tie.Need-add-behind-requires
+add-behind-requires c κs =
+    let a = c .before .before .before .before .before .before .before .before .before .before .before .before .before .args in
+    let t = a .track .now in
+    let m = a .marks .now in
+    let r = c .before .before .before .before .before .before .before .before .before .before .before .before .before .pre .0 .readable in
+    let q = c .before .before .before .place-of .result in (
+      record {
+        flagged = c .before .before .before .before .before .before .before .before .before .before .before .before .before .pre .0;
+        absent = found-none t m (a .start) q (a .s) r (c .before .before .before .place-of .ensures (r .accepted .sectors) (readable-steps t m (a .start) r)) (c .before .before .if3 .left);
+      },
+      ((c .before .before .before .before .before .before .if1 .left, sym (c .before .before .before .before .before .content-right .ensures) ∙ not-false _ (c .before .before .before .before .if2 .left)), c .before .before .before .before .before .before .before .before .before .before .before .before .before .pre .1),
+    )
+
+same-length : tie.Need-same-length
+same-length c = search needs
+
+same-length-2 : tie.Need-same-length-2
+same-length-2 c = search needs
+
+returns-4 : tie.Need-returns-4
+returns-4 c = search needs
+
+pub add-on-spec : {M : Type 1} → statement M
+add-on-spec =
+    tie.close
+    (tie.spec
+    wanted-wrong-requires
+    returns
+    content-right-requires
+    wanted-wrong-requires-2
+    returns-2
+    place-of-requires
+    sector-repeated-requires
+    returns-3
+    add-behind-requires
+    same-length
+    same-length-2
+    returns-4)

@@ -1,0 +1,223 @@
+// Add: one more sector after the last, with that block's first-written gap between them.
+ghost use mathlib.Core.Path.{_≡_};
+ghost use mathlib.Core.Bool.{true, false};
+ghost use mathlib.Core.List.{List, [], _∷_, _++_};
+ghost use Prim.Native.Nat.{ℕ, suc, _+_, _-_, _%_, _≤_, _<_};
+ghost use lib.ListN.{length, take, replicate};
+ghost use lib.Dec.{eqb};
+ghost use Rattle.format.specs.Answer.{answerAt};
+ghost use Rattle.format.specs.Judged.{answerOf};
+ghost use Rattle.format.specs.Lent.{cells, bytesOf, marksOf};
+ghost use Rattle.format.specs.Accept.{Placed};
+ghost use Rattle.format.specs.Written.{gapOne, asPair};
+ghost use Rattle.format.specs.Blank.{contentRight};
+ghost use Rattle.format.specs.Add.{addedFlag, addCells, add};
+ghost use Rattle.format.proofs.GrownSpans.{lastOf};
+ghost use Rattle.encode.specs.Room.{sectorFrom, sectorSize};
+ghost use Rattle.sectors.proofs.From.{SectorsFrom};
+ghost use Rattle.writer.specs.After.{trackAfter, marksAfter, filledSpan};
+ghost use Rattle.writer.specs.Left.{ReadableFlag, Addable, Left};
+use crate::both_lent;
+use crate::content_right;
+use crate::copy_kept;
+use crate::place_of;
+use crate::put_span;
+
+// The last sector: its place, and B8 of the sector that comes behind it.
+struct Last {
+    place: usize,
+    b8: u8,
+}
+
+// The last of the sectors from sector 0 at place `start` on.
+fn last_of(track: &[u8], marks: &[u8], start: usize) -> Last
+    requires { ⌜ Left (now track) (now marks) start true ⌝ }
+    requires { ⌜ start < length (now track) ⌝ }
+    ensures { λ r. ⌜ ((x : Placed) (xs : List Placed) → SectorsFrom (now (track .entry)) (now (marks .entry)) start true (x ∷ xs) → (SectorsFrom (now (track .entry)) (now (marks .entry)) (r .place) (eqb (r .place) start) (lastOf x xs ∷ [])) × (r .b8 ≡ suc (length xs) % 2)) ⌝ }
+{
+    let mut p = start;
+    let mut b8: u8 = 1;
+    loop {
+        let x = sectors::sector_at(track, marks, p == start, p);
+        if x.last {
+            return Last { place: p, b8 };
+        }
+        p = x.next;
+        b8 = 1 - b8;
+    }
+}
+
+// The flag of a new sector: B8, B7, and B2 B1 as in the home flag f.
+fn added_flag(f: u8, b8: u8, b7: u8) -> u8
+    requires { ⌜ (b8 ≤ 1) × (b7 ≤ 1) ⌝ }
+    ensures { λ r. ⌜ ((i : ℕ) → b8 ≡ i % 2 → r ≡ addedFlag f i b7) ⌝ }
+{
+    b8 * 128 + b7 * 64 + f % 4
+}
+
+// Writes the new track: what stands before place `end` as it was, the gap up to place `to`, the new sector, and the gap to index.
+fn write_added(
+    track: &[u8],
+    marks: &[u8],
+    new_track: &mut [u8],
+    new_marks: &mut [u8],
+    end: usize,
+    to: usize,
+    flag: u8,
+    a: sector::Address,
+    s: u8,
+    key: &[u8],
+    body: &[u8],
+)
+    requires { ⌜ (length (now key) ≤ 255) × (length (now body) ≤ 65535) ⌝ }
+    requires { ⌜ (end ≤ to) × (to + sectorSize false (length (now key)) (length (now body)) ≤ length (now track)) ⌝ }
+    requires { ⌜ (length (now marks) ≡ length (now track)) × (length (now «new_track») ≡ length (now track)) × (length (now «new_marks») ≡ length (now track)) ⌝ }
+    ensures bytes { λ _. ⌜ now («new_track» .exit) ≡ take end (now (track .entry)) ++ bytesOf (replicate (to - end) 0xFF ++ filledSpan (length (now (track .entry)) - to) (sectorFrom false flag (a .cylinder) (a .head) s (now (key .entry)) (now (body .entry)))) ⌝ }
+    ensures marks { λ _. ⌜ now («new_marks» .exit) ≡ take end (now (marks .entry)) ++ marksOf (replicate (to - end) 0xFF ++ filledSpan (length (now (track .entry)) - to) (sectorFrom false flag (a .cylinder) (a .head) s (now (key .entry)) (now (body .entry)))) ⌝ }
+{
+    copy_kept(track, marks, new_track, new_marks, end);
+    encode::fill_gap(new_track, new_marks, end, to);
+    let l = track.len();
+    put_span(
+        new_track,
+        new_marks,
+        to,
+        l,
+        false,
+        flag,
+        a.cylinder,
+        a.head,
+        s,
+        key,
+        body,
+    );
+}
+
+// Add behind the last sector of an accepted track on which no sector carries S: 15, and then the new track is written.
+fn add_behind(
+    track: &[u8],
+    marks: &[u8],
+    new_track: &mut [u8],
+    new_marks: &mut [u8],
+    start: usize,
+    f: u8,
+    b7: u8,
+    s: u8,
+    key: &[u8],
+    body: &[u8],
+) -> format::Answer
+    requires { ⌜ Addable (now track) (now marks) start f s ⌝ }
+    requires { ⌜ (b7 ≤ 1) × (contentRight (now key) (now body) ≡ true) ⌝ }
+    requires { ⌜ (length (now «new_track») ≡ length (now track)) × (length (now «new_marks») ≡ length (now track)) ⌝ }
+    ensures answer { λ r. ⌜ answerAt (r .number) (r .place) ≡ answerOf (asPair (addCells gapOne (cells (now (track .entry)) (now (marks .entry))) b7 s (now (key .entry)) (now (body .entry)))) ⌝ }
+    ensures bytes { λ _. ⌜ now («new_track» .exit) ≡ trackAfter (asPair (addCells gapOne (cells (now (track .entry)) (now (marks .entry))) b7 s (now (key .entry)) (now (body .entry)))) (now («new_track» .entry)) ⌝ }
+    ensures marks { λ _. ⌜ now («new_marks» .exit) ≡ marksAfter (asPair (addCells gapOne (cells (now (track .entry)) (now (marks .entry))) b7 s (now (key .entry)) (now (body .entry)))) (now («new_marks» .entry)) ⌝ }
+{
+    let last = last_of(track, marks, start);
+    let p = last.place;
+    let x = sectors::sector_at(track, marks, p == start, p);
+    let end = x.end;
+    let to = end + encode::gap_one(x.key_length as u8, x.data_length as u16);
+    let n = encode::sector_size(false, key.len() as u8, body.len() as u16);
+    if track.len() < to + n + 13 {
+        return format::room_missing();
+    }
+    let a = sectors::address_at(track, marks, p == start, p);
+    let flag = added_flag(f, last.b8, b7);
+    write_added(
+        track,
+        marks,
+        new_track,
+        new_marks,
+        end,
+        to,
+        flag,
+        a,
+        s,
+        key,
+        body,
+    );
+    format::done()
+}
+
+// Add on an accepted track whose sector 0 opens at place `start` and whose home has the flag f: 14, 13, 15, and then the new track is written.
+fn add_on(
+    track: &[u8],
+    marks: &[u8],
+    new_track: &mut [u8],
+    new_marks: &mut [u8],
+    start: usize,
+    f: u8,
+    b7: u8,
+    s: u8,
+    key: &[u8],
+    body: &[u8],
+) -> format::Answer
+    requires { ⌜ ReadableFlag (now track) (now marks) start f ⌝ }
+    requires { ⌜ (length (now «new_track») ≡ length (now track)) × (length (now «new_marks») ≡ length (now track)) ⌝ }
+    ensures answer { λ r. ⌜ answerAt (r .number) (r .place) ≡ answerOf (asPair (addCells gapOne (cells (now (track .entry)) (now (marks .entry))) b7 s (now (key .entry)) (now (body .entry)))) ⌝ }
+    ensures bytes { λ _. ⌜ now («new_track» .exit) ≡ trackAfter (asPair (addCells gapOne (cells (now (track .entry)) (now (marks .entry))) b7 s (now (key .entry)) (now (body .entry)))) (now («new_track» .entry)) ⌝ }
+    ensures marks { λ _. ⌜ now («new_marks» .exit) ≡ marksAfter (asPair (addCells gapOne (cells (now (track .entry)) (now (marks .entry))) b7 s (now (key .entry)) (now (body .entry)))) (now («new_marks» .entry)) ⌝ }
+{
+    if 1 < b7 {
+        return format::wanted_wrong();
+    }
+    if !content_right(key, body) {
+        return format::wanted_wrong();
+    }
+    let q = place_of(track, marks, start, s);
+    if q < track.len() {
+        return format::sector_repeated(q);
+    }
+    add_behind(
+        track,
+        marks,
+        new_track,
+        new_marks,
+        start,
+        f,
+        b7,
+        s,
+        key,
+        body,
+    )
+}
+
+// Add: 1, the old track's own answer, 14, 13 and 15 leave every byte and mark as it was; 0 where the new track is written.
+pub fn add(
+    track: &[u8],
+    marks: &[u8],
+    new_track: &mut [u8],
+    new_marks: &mut [u8],
+    b7: u8,
+    s: u8,
+    key: &[u8],
+    body: &[u8],
+) -> format::Answer
+    ensures answer { λ r. ⌜ answerAt (r .number) (r .place) ≡ answerOf (add gapOne (now (track .entry)) (now (marks .entry)) (length (now («new_track» .entry))) (length (now («new_marks» .entry))) b7 s (now (key .entry)) (now (body .entry))) ⌝ }
+    ensures bytes { λ _. ⌜ now («new_track» .exit) ≡ trackAfter (add gapOne (now (track .entry)) (now (marks .entry)) (length (now («new_track» .entry))) (length (now («new_marks» .entry))) b7 s (now (key .entry)) (now (body .entry))) (now («new_track» .entry)) ⌝ }
+    ensures marks { λ _. ⌜ now («new_marks» .exit) ≡ marksAfter (add gapOne (now (track .entry)) (now (marks .entry)) (length (now («new_track» .entry))) (length (now («new_marks» .entry))) b7 s (now (key .entry)) (now (body .entry))) (now («new_marks» .entry)) ⌝ }
+{
+    if !both_lent(track, marks, new_track.len(), new_marks.len()) {
+        return format::lent_wrong();
+    }
+    let judged = reader::judge(track, marks);
+    match judged {
+        reader::Judged::Accepted(h) => {
+            let start = h.place + 25;
+            add_on(
+                track,
+                marks,
+                new_track,
+                new_marks,
+                start,
+                h.flag,
+                b7,
+                s,
+                key,
+                body,
+            )
+        }
+        reader::Judged::Refused(a) => a,
+    }
+}
