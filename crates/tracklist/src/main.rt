@@ -29,23 +29,24 @@ fn write_home(h: Home) {
     write_last(h.flag as u64);
 }
 
-// Writes S, flag, KL, DL and the data's place of each sector from place p on, where sector 0's count opens.
-fn write_sectors(track: &[u8], marks: &[u8], p: usize) {
-    let mut at = p;
-    let mut first = true;
-    while at < track.len() {
-        let x = sectors::sector_at(track, marks, first, at);
-        write_field(x.number as u64);
-        write_field(x.flag as u64);
-        write_field(x.key_length as u64);
-        write_field(x.data_length as u64);
-        write_last(x.data_place as u64);
-        let next = x.next;
-        if next <= at {
-            return;
+// Writes S, flag, KL, DL and the data's place of a sector.
+fn write_sector(x: listing::Sector) {
+    write_field(x.number as u64);
+    write_field(x.flag as u64);
+    write_field(x.key_length as u64);
+    write_field(x.data_length as u64);
+    write_last(x.data_place as u64);
+}
+
+// Writes a line for each sector of the track, from left to right.
+fn write_sectors(track: &[u8], marks: &[u8]) {
+    let filled = listing::list_all(track, marks);
+    let count = filled.listing.count;
+    let records = filled.records;
+    for i in 0..67 {
+        if i < count {
+            write_sector(records[i]);
         }
-        at = next;
-        first = false;
     }
 }
 
@@ -54,7 +55,7 @@ fn list(track: &[u8], marks: &[u8]) {
     match reader::judge(track, marks) {
         reader::Judged::Accepted(h) => {
             write_home(h);
-            write_sectors(track, marks, h.place + 25);
+            write_sectors(track, marks);
         }
         reader::Judged::Refused(a) => write_refused(a.number),
     }

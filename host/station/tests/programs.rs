@@ -1,4 +1,4 @@
-//! The listing program against the reference, on inputs of all kinds.
+//! The programs against the reference, on inputs of all kinds.
 
 mod common;
 
@@ -13,14 +13,15 @@ fn repository() -> PathBuf {
     Path::new(env!("CARGO_MANIFEST_DIR")).join("../..")
 }
 
-/// The program named by ISO3561_TRACKLIST, or the repository's own.
-fn program() -> PathBuf {
-    let path = match std::env::var_os("ISO3561_TRACKLIST") {
-        Some(path) => PathBuf::from(path),
-        None => repository().join("target/bin/tracklist"),
+/// The folder named by ISO3561_BIN, or the repository's own, has the program.
+fn program(name: &str) -> PathBuf {
+    let folder = match std::env::var_os("ISO3561_BIN") {
+        Some(folder) => PathBuf::from(folder),
+        None => repository().join("target/bin"),
     };
-    let name = path.display();
-    assert!(path.is_file(), "{name} is missing: run `rt check` first");
+    let path = folder.join(name);
+    let shown = path.display();
+    assert!(path.is_file(), "{shown} is missing: run `rt check` first");
     path
 }
 
@@ -35,7 +36,7 @@ fn feed(mut stdin: ChildStdin, input: &[u8], piece: usize) {
 }
 
 /// What the program prints for an input.
-fn listed(program: &Path, input: &[u8], piece: usize) -> Vec<u8> {
+fn printed(program: &Path, input: &[u8], piece: usize) -> Vec<u8> {
     let mut child = Command::new(program)
         .stdin(Stdio::piped())
         .stdout(Stdio::piped())
@@ -97,28 +98,63 @@ fn number_of(output: &[u8]) -> u8 {
     }
 }
 
-#[test]
-fn tracklist_as_the_reference() {
-    let program = program();
-    let mut tally = Tally::new("tracklist", 1_600);
+/// What trackwalk prints by the reference: a line for each candidate, and the number that ends the walk.
+fn walked(input: &[u8]) -> (u8, String) {
+    if input.len() % 2 == 1 {
+        return (1, "ended 1\n".to_string());
+    }
+    let (track, marks) = input.split_at(input.len() / 2);
+    let mut walk = reference::Walk::new(track, marks);
+    let mut lines = String::new();
+    loop {
+        match walk.step() {
+            Ok(c) => lines += &format!("{} {} {} {} {}\n", c.place, c.flag, c.s, c.kl, c.dl),
+            Err(answer) => return (answer.number, lines + &format!("ended {}\n", answer.number)),
+        }
+    }
+}
+
+/// Runs a program on the inputs of the seeds and compares what it prints with what is expected.
+fn compare(name: &'static str, numbers: &[u8], expected: fn(&[u8]) -> (u8, String)) {
+    let program = program(name);
+    let mut tally = Tally::new(name, 1_600);
     for seed in tally.seeds() {
         let mut rng = Rng::new(seed ^ 0x7AC1);
         let input = input_of(seed, &mut rng);
         let piece = rng.pick(&[1_000_000, 4_096, 1_000, 333]);
-        let expected = reference::tracklist(&input);
-        tally.count(number_of(&expected));
-        let printed = listed(&program, &input, piece);
-        let both = [&printed, &expected].map(|text| String::from_utf8_lossy(text));
-        assert_eq!(both[0], both[1], "seed {seed}");
+        let (number, lines) = expected(&input);
+        tally.count(number);
+        let text = printed(&program, &input, piece);
+        assert_eq!(String::from_utf8_lossy(&text), lines, "seed {seed}");
     }
-    tally.finish(300, &[0, 1, 2, 3, 4, 5, 6, 7, 8, 9, 10, 11, 13]);
+    tally.finish(300, numbers);
+}
+
+/// What tracklist prints by the reference, with the number that it tells.
+fn listed(input: &[u8]) -> (u8, String) {
+    let text = reference::tracklist(input);
+    (number_of(&text), String::from_utf8_lossy(&text).to_string())
+}
+
+#[test]
+fn tracklist_as_the_reference() {
+    compare(
+        "tracklist",
+        &[0, 1, 2, 3, 4, 5, 6, 7, 8, 9, 10, 11, 13],
+        listed,
+    );
+}
+
+#[test]
+fn trackwalk_as_the_reference() {
+    compare("trackwalk", &[1, 12], walked);
 }
 
 /// The sample is listed as documented.
 #[test]
 fn sample_is_listed() {
     let sample = std::fs::read(repository().join("samples/case5.bin")).expect("the sample");
-    let printed = listed(&program(), &sample, sample.len());
+    let printed = printed(&program("tracklist"), &sample, sample.len());
     let lines = "100 7 0\n0 0 0 8 90\n1 128 3 80 182\n";
     assert_eq!(String::from_utf8_lossy(&printed), lines);
     assert_eq!(reference::tracklist(&sample), lines.as_bytes());
