@@ -51,4 +51,5 @@ pub mod Rewritten
 pub mod Corrected
 pub mod Orders
 pub mod PairOrders
+pub mod ManyOrders
 pub mod CorrectPair
