@@ -61,7 +61,7 @@ dataWrong p = answerAt 11 p
 abbrev pub sectorMissing : Answer
 sectorMissing = answerAt 12 0
 
--- 13: the count at p repeats the S of another.
+-- 13: the count at p repeats the S of an earlier one; of Add, it carries the S of the new one.
 abbrev pub sectorRepeated : ℕ → Answer
 sectorRepeated p = answerAt 13 p
 

@@ -43,7 +43,7 @@ abbrev pub joined : List (List ℕ) → List ℕ
 joined [] = []
 joined (g ∷ gs) = g ++ joined gs
 
--- No span follows.
+-- The list is empty.
 abbrev pub none : {A : Type 0} → List A → Bool
 none [] = true
 none (x ∷ xs) = false

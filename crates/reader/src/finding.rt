@@ -116,7 +116,7 @@ pub fn find_part(track: &[u8], marks: &[u8], s: u8, wanted: Wanted) -> Outcome
 }
 
 // The key's or the data's information of sector S, as a part of the lent track; the empty part where it is refused.
-pub fn find<'a>(track: &'a [u8], marks: &'a [u8], s: u8, wanted: Wanted) -> &'a [u8]
+pub fn find<'a>(track: &'a [u8], marks: &[u8], s: u8, wanted: Wanted) -> &'a [u8]
     ensures { λ r. ⌜ now r ≡ handedOut (now (track .entry)) (find s (asWanted wanted) (now (track .entry)) (now (marks .entry))) ⌝ }
 {
     match find_part(track, marks, s, wanted) {

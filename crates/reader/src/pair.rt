@@ -206,9 +206,9 @@ pub fn pair_find_part(
 // The key's or the data's information of sector S, as a part of the track that holds the record; the empty part where it is refused.
 pub fn pair_find<'a>(
     track: &'a [u8],
-    marks: &'a [u8],
+    marks: &[u8],
     second: &'a [u8],
-    second_marks: &'a [u8],
+    second_marks: &[u8],
     s: u8,
     wanted: Wanted,
 ) -> &'a [u8]

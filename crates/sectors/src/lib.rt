@@ -45,7 +45,7 @@ fn sector_in(q: usize, next: usize, last: bool, r: &[u8]) -> SectorAt
     }
 }
 
-// The sector whose count opens at place p, with an opening of 6 bytes where it is sector 0's, else of 8; all zero above place 4,002.
+// The sector whose count opens at place p, with an opening of 6 bytes where it is sector 0's, else of 8; above place 4,002 there is none, and all numbers are zero.
 pub fn sector_at(track: &[u8], marks: &[u8], first: bool, p: usize) -> SectorAt
     ensures { λ s. ⌜ asStepped s ≡ steppedAt first p (cells (now (track .entry)) (now (marks .entry))) ⌝ }
 {
