@@ -4,7 +4,7 @@
  * A track is lent as two byte slices of one length L, 3,815 to 4,002: the track and its marks.
  * A mark is 1 where the byte was recorded with its first five clocks missing, and else 0.
  * Every slice is a pointer and then a length. Nothing is kept after a call returns.
- * Slices lent for writing overlap no other slice of the same call.
+ * Slices lent for writing overlap no other slice of the same call. A pointer is never NULL, also where its length is 0.
  */
 #ifndef ISO3561_H
 #define ISO3561_H
@@ -113,7 +113,8 @@ uint64_t iso3561_accept(const uint8_t *track, size_t track_length,
                         const uint8_t *marks, size_t marks_length);
 
 /* Find: the key or data of the one sector with this number, on any track, sound or damaged.
- * The part lies in the lent track; a refusal has an empty part. `wanted` is an enum iso3561_wanted. */
+ * The part lies in the lent track; a refusal has an empty part. `wanted` is an enum iso3561_wanted;
+ * any other value is answer 14, before anything else is looked at. */
 uint64_t iso3561_find(const uint8_t *track, size_t track_length,
                       const uint8_t *marks, size_t marks_length,
                       uint8_t sector, uint8_t wanted);

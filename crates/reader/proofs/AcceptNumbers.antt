@@ -7,7 +7,7 @@ use mathlib.Core.List.{List, [], _∷_}
 use lib.ListN.{length, getD, take, drop, set, replicate, length-drop, length-set, length-replicate, getD-replicate}
 use lib.Seq.{drop-drop, getD-set-same, getD-set-other}
 use lib.Dec.{eqb}
-use borrow.Author.Tests.{eq-eqb, ne-eqb, eqb-true, eqb-false, le-ltb}
+use borrow.Author.Tests.{eq-eqb, ne-eqb, eqb-true, eqb-false, le-leb}
 use Rattle.format.specs.Answer.{sectorRepeated}
 use Rattle.format.specs.Judged.{Judged, good, refused, require}
 use Rattle.format.specs.Lent.{cells, unmarked}
@@ -21,7 +21,8 @@ use Rattle.format.proofs.Shape.{cleanSpan, cleanSpans}
 use Rattle.format.proofs.Opening.{unmarked-at, unmarked-drop}
 use Rattle.format.proofs.Marks.{marks-clean}
 use Rattle.search.proofs.Cells.{drop-cells}
-use Rattle.reader.specs.Accepting.{Rest, Unstrayed, numbersIn, SectorHere, placeWithin, sectorOf, sectorAt}
+use Rattle.sectors.specs.Stepped.{Stepped, steppedIn, restAt, steppedAt}
+use Rattle.reader.specs.Accepting.{Rest, Unstrayed, numbersIn}
 use Rattle.reader.proofs.AcceptSpans.{Front, front, after-bytes, no-span}
 use Rattle.reader.proofs.AcceptFirst.{First, first-front}
 
@@ -69,18 +70,15 @@ pub flagged-none : (f : List ℕ) (p : ℕ) (t m : List ℕ) → length t ≤ p 
 unfolding flagged
 flagged-none f p t m l = rw (no-span (drop p t) (drop p m) (omega (arith, length-drop p t)))
 
--- A place within the longest track is itself.
-pub within-is : (p : ℕ) → p ≤ 4002 → placeWithin p ≡ p
-unfolding placeWithin
-within-is p l = rw (le-ltb 4002 p l)
+-- The number of the sector whose count opens at place p.
+number-at : (first : Bool) (p : ℕ) (c : List ℕ) → p ≤ 4002 → steppedAt first p c .number ≡ countNumber (afterOpening (openingLength first) (drop p c))
+unfolding steppedAt steppedIn restAt
+number-at first p c l = rw (le-leb p 4002 l)
 
-number-at : (first : Bool) (p : ℕ) (c : List ℕ) → sectorAt first p c .listed .number ≡ countNumber (afterOpening (openingLength first) c)
-unfolding sectorAt sectorOf
-number-at first p c = refl
-
-next-at : (first : Bool) (p : ℕ) (c : List ℕ) → sectorAt first p c .next ≡ p + spanLength (openingLength first) c
-unfolding sectorAt sectorOf
-next-at first p c = refl
+-- Where the sector behind the one at place p starts.
+next-at : (first : Bool) (p : ℕ) (c : List ℕ) → p ≤ 4002 → steppedAt first p c .next ≡ p + spanLength (openingLength first) (drop p c)
+unfolding steppedAt steppedIn
+next-at first p c l = rw (le-leb p 4002 l)
 
 -- What a later sector at place q tells: its number, and where the next one starts.
 pub record Passed (t m : List ℕ) (q number next : ℕ) : Type 0 where
@@ -90,20 +88,20 @@ pub record Passed (t m : List ℕ) (q number next : ℕ) : Type 0 where
   pub within : next ≤ length t
 
 -- The later sector x at place q, where what is left starts with it.
-pub passed : (t m : List ℕ) (q : ℕ) (x : SectorHere) → x ≡ sectorAt false (placeWithin q) (drop (placeWithin q) (cells t m))
-    → q < length t → length t ≤ 4002 → Rest q (drop q t) (drop q m) → Passed t m q (x .listed .number) (x .next)
+pub passed : (t m : List ℕ) (q : ℕ) (x : Stepped) → x ≡ steppedAt false q (cells t m) → q < length t → length t ≤ 4002 → Rest q (drop q t) (drop q m)
+    → Passed t m q (x .number) (x .next)
 passed t m q x e l w r =
     let c : List ℕ = cells (drop q t) (drop q m) in
-    let y : x ≡ sectorAt false q c =
-    e ∙ ap (λ (k : ℕ). sectorAt false k (drop k (cells t m))) (within-is q (omega arith)) ∙ ap (sectorAt false q) (drop-cells q t m) in
-    let n : x .next ≡ q + spanLength 8 c = ap (λ (z : SectorHere). z .next) y ∙ next-at false q c in
+    let d : drop q (cells t m) ≡ c = drop-cells q t m in
+    let n : x .next ≡ q + spanLength 8 c =
+    ap (λ (z : Stepped). z .next) e ∙ next-at false q (cells t m) (omega arith) ∙ ap (λ (z : List ℕ). q + spanLength 8 z) d in
     let k : x .next - q ≡ spanLength 8 c = omega arith in
     let f : Front q (x .next - q) (drop q t) (drop q m) = front q (drop q t) (drop q m) (x .next - q) r k (omega (arith, length-drop q t)) in
     let b : afterOpening 8 c ≡ drop 8 (f .span) =
     sym (after-bytes (drop q t) (drop q m) 0 8) ∙ ap (λ (j : ℕ). take (j - 8) (drop 8 (drop q t))) (sym k) ∙ f .bytes in
     record {
       front-is = f;
-      number-is = ap (λ (z : SectorHere). z .listed .number) y ∙ number-at false q c ∙ ap (λ (z : List ℕ). countNumber z) b;
+      number-is = ap (λ (z : Stepped). z .number) e ∙ number-at false q (cells t m) (omega arith) ∙ ap (λ (z : List ℕ). countNumber z) (ap (afterOpening 8) d ∙ b);
       further = omega (arith, f .opening);
       within = omega (arith, f .fits, length-drop q t);
     }
@@ -133,22 +131,19 @@ module _ (t m : List ℕ) (q number next : ℕ) (s : Passed t m q number next) w
 
 -- Sector 0 at place p: its number is the first that is passed, and what is left behind it decides.
 module _ (t m : List ℕ) (p : ℕ) (u : Unstrayed p t m) (o : startsWith plainOpening (drop p (cells t m)) ≡ true)
-    (x : SectorHere) (e : x ≡ sectorAt true (placeWithin p) (drop (placeWithin p) (cells t m))) where
-  zero-is : x ≡ sectorAt true p (drop p (cells t m))
-  zero-is = e ∙ ap (λ (k : ℕ). sectorAt true k (drop k (cells t m))) (within-is p (omega (arith, u .reach, u .within)))
-
+    (x : Stepped) (e : x ≡ steppedAt true p (cells t m)) where
   zero-next : x .next ≡ p + spanLength 6 (drop p (cells t m))
-  zero-next = ap (λ (z : SectorHere). z .next) zero-is ∙ next-at true p (drop p (cells t m))
+  zero-next = ap (λ (z : Stepped). z .next) e ∙ next-at true p (cells t m) (omega (arith, u .reach, u .within))
 
   zero-front : First p (x .next - p) t m
   zero-front = first-front p t m (x .next - p) u o (omega (arith, zero-next))
 
-  zero-number : x .listed .number ≡ countNumber (drop 6 (beforeOpening (drop p (cells t m))))
+  zero-number : x .number ≡ countNumber (drop 6 (beforeOpening (drop p (cells t m))))
   zero-number =
       let c : List ℕ = drop p (cells t m) in
       let k : x .next - p ≡ spanLength 6 c = omega (arith, zero-next) in
       let j : p + (x .next - p) - (p + 6) ≡ spanLength 6 c - 6 = omega arith in
-      ap (λ (z : SectorHere). z .listed .number) zero-is ∙ number-at true p c
+      ap (λ (z : Stepped). z .number) e ∙ number-at true p (cells t m) (omega (arith, u .reach, u .within))
       ∙ ap (λ (z : List ℕ). countNumber z) (sym (after-bytes t m p 6) ∙ ap (λ (i : ℕ). take i (drop (p + 6) t)) (sym j) ∙ zero-front .bytes)
 
   -- Where the next sector starts, or the track ends.
@@ -163,7 +158,7 @@ module _ (t m : List ℕ) (p : ℕ) (u : Unstrayed p t m) (o : startsWith plainO
 
   -- The numbers by the flags of which that of sector 0 is set.
   pub zero-flagged : numbersIn [] 0 p (spans (drop p (cells t m)))
-      ≡ flagged (set (replicate 256 0) (x .listed .number) 1) (x .next) (laterSpans (cells (drop (x .next) t) (drop (x .next) m)))
+      ≡ flagged (set (replicate 256 0) (x .number) 1) (x .next) (laterSpans (cells (drop (x .next) t) (drop (x .next) m)))
   unfolding numbersIn spans among cleanSpans cleanSpan
   zero-flagged =
       let d : List ℕ = drop p (cells t m) in

@@ -161,7 +161,3 @@ module _ (h : Home) (i : ℕ) (a : Address) (p n : ℕ) (t m : List ℕ) (f : Fr
       ≡ answerOf (readSpans h (suc i) (settled a) p (laterSpans (cells t m)))
   front-good z =
       rw (part-all n t, part-all n m, f .rest-cut, f .cut, ← f .size) (spans-good h i a p (f .span) (f .later) b by-span z)
-
--- A span shorter than its opening has nothing behind it.
-pub after-none : (o : ℕ) (c : List ℕ) → spanLength o c < o → afterOpening o c ≡ []
-after-none o c l = empty (afterOpening o c) (omega (arith, after-length o c))

@@ -4,7 +4,6 @@ pub mod AcceptHome
 pub mod AcceptAnswers
 pub mod AcceptSpans
 pub mod AcceptFirst
-pub mod AcceptStanding
 pub mod AcceptNumbers
 pub mod AcceptBehind
 pub mod CandidateParts

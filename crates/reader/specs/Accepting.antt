@@ -4,27 +4,22 @@ use Prim.Native.Nat.{ℕ, suc, _+_, _≤_}
 use mathlib.Core.Bool.{Bool, true, not}
 use mathlib.Core.List.{List, [], _∷_}
 use lib.ListN.{length, getD, drop}
-use lib.Dec.{ltb, eqb}
-use Rattle.crc.specs.Check.{pick}
 use Rattle.format.specs.Answer.{answerAt, homeCheckWrong, homeFieldsWrong, sectorRepeated}
 use Rattle.format.specs.Judged.{Judged, good, refused, then, require}
 use Rattle.format.specs.Lent.{cells}
 use Rattle.format.specs.Opening.{closedAfter}
 use Rattle.format.specs.Address.{addressIn}
 use Rattle.format.specs.Home.{Home, homeFieldsRight, firstCountPlace}
-use Rattle.format.specs.Count.{Settled, unsettled, countFlag, countNumber, keyLength, dataLength}
-use Rattle.format.specs.Block.{keyOffset, dataOffset, blockEnd}
-use Rattle.format.specs.Span.{runsToIndex, spanLength, afterOpening, beforeOpening, laterSpans}
+use Rattle.format.specs.Count.{Settled, unsettled, countNumber}
+use Rattle.format.specs.Span.{beforeOpening, laterSpans}
 use Rattle.format.specs.Sector.{Sector, openingLength, isFirst, judgeCount, readBlocks}
 use Rattle.format.specs.Accept.{judgeMarks, readSpans, Placed, placedFrom, among, judgeNumbers, spansOf, firstCountEnd}
-use Rattle.format.specs.Listing.{Listed}
 use Rattle.format.proofs.Shape.{cleanSpans}
 use Rattle.sector.specs.As.{asHome}
 use Rattle.reader.specs.declared.home.HomeJudged.{HomeJudged}
 use Rattle.reader.specs.declared.home.HomeJudged.the-variants.{Right, Refused}
 use Rattle.reader.specs.declared.accepting.Judged.{Judged as JudgedCode}
 use Rattle.reader.specs.declared.accepting.Judged.the-variants.{Accepted, Refused as RefusedTrack}
-use Rattle.reader.specs.declared.sectors.SectorAt.{SectorAt as SectorCode}
 
 -- The home, or the answer that refuses it.
 abbrev pub judgedHome : HomeJudged → Judged Home
@@ -95,54 +90,3 @@ judgedTrack (RefusedTrack a) = refused (answerAt (a .number) (a .place))
 abbrev pub trackInWindow : JudgedCode → Type 0
 trackInWindow (Accepted h) = (23 ≤ h .place) × (h .place ≤ 37)
 trackInWindow (RefusedTrack a) = Unit {0}
-
--- A sector that stands on a track: its record, where its data block ends, where the next sector starts, and is it the last?
-pub record SectorHere : Type 0 where
-  pub listed : Listed
-  pub end : ℕ
-  pub next : ℕ
-  pub last : Bool
-
--- The sector that a value of the code stands for.
-abbrev pub asSector : SectorCode → SectorHere
-asSector s =
-    record {
-      listed = record {
-        flag = s .flag;
-        number = s .number;
-        keyLength = s .«key_length»;
-        dataLength = s .«data_length»;
-        keyPlace = s .«key_place»;
-        dataPlace = s .«data_place»;
-      };
-      end = s .end;
-      next = s .next;
-      last = s .last;
-    }
-
--- The place p, or the end of the longest track where p lies beyond it.
-unfoldable pub placeWithin : ℕ → ℕ
-placeWithin p = pick (ltb 4002 p) 4002 p
-
--- The sector of which r follows the count's opening, from place q on.
-unfoldable pub sectorOf : ℕ → ℕ → Bool → List ℕ → SectorHere
-sectorOf q next last r =
-    record {
-      listed = record {
-        flag = countFlag r;
-        number = countNumber r;
-        keyLength = keyLength r;
-        dataLength = dataLength r;
-        keyPlace = pick (eqb (keyLength r) 0) 0 (q + keyOffset + 6);
-        dataPlace = q + dataOffset r + 6;
-      };
-      end = q + blockEnd r;
-      next = next;
-      last = last;
-    }
-
--- The sector whose count opens at the front of c, at place p: sector 0 or a later one.
-unfoldable pub sectorAt : Bool → ℕ → List ℕ → SectorHere
-sectorAt first p c =
-    let o = openingLength first in
-    sectorOf (p + o) (p + spanLength o c) (runsToIndex o c) (afterOpening o c)

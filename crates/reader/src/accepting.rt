@@ -15,10 +15,10 @@ ghost use Rattle.sector.specs.As.{asAddress, asHome, asSettled};
 ghost use Rattle.reader.specs.Accepting.{judgeSector, Rest, Unstrayed, numbersIn, judgeBehind, judgedTrack, trackInWindow};
 use crate::home::HomeJudged;
 use crate::home::judge_home;
-use crate::sectors::sector_at;
 use sector::Address;
 use sector::Home;
 use sector::Named;
+use sectors::sector_at;
 
 // The answer for a sector in position i and at place p by what follows its count's opening: 9, 7, 8, then 9, 10, 11.
 fn judge_sector(h: Home, i: usize, x: Named, p: usize, last: bool, r: &[u8]) -> format::Answer

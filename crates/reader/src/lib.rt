@@ -4,7 +4,6 @@ pub mod candidate;
 pub mod finding;
 pub mod home;
 pub mod pair;
-pub mod sectors;
 pub mod walk;
 
 pub use accepting::Judged;

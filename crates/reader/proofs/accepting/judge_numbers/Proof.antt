@@ -7,7 +7,8 @@ use lib.ListN.{length, drop, replicate, length-set, length-replicate}
 use Rattle.format.specs.Judged.{answerOf}
 use Rattle.format.specs.Lent.{cells}
 use Rattle.format.specs.Span.{laterSpans}
-use Rattle.reader.specs.Accepting.{Rest, asSector}
+use Rattle.sectors.specs.Stepped.{asStepped}
+use Rattle.reader.specs.Accepting.{Rest}
 use Rattle.reader.proofs.AcceptNumbers.{flagged, flagged-none, passed, passed-rest, passed-repeated, passed-next, zero-rest, zero-flagged}
 use Rattle.reader.proofs.accepting.judge_numbers.Statement.{statement}
 use Rattle.reader.proofs.accepting.judge_numbers.Tie as tie
@@ -33,7 +34,7 @@ loop-holds : tie.Need-loop-holds Inv-loop μ-loop
 loop-holds c =
     let a = c .before .before .before .before .args in
     let y = c .before .sector-at in
-    (length-set (replicate 256 0) (y .result .number) 1 ∙ length-replicate {A = ℕ} 256 0, zero-rest (a .track .now) (a .marks .now) (a .p) (c .before .before .before .before .pre .0) (c .before .before .before .before .pre .1) (asSector (y .result)) (y .ensures), refl)
+    (length-set (replicate 256 0) (y .result .number) 1 ∙ length-replicate {A = ℕ} 256 0, zero-rest (a .track .now) (a .marks .now) (a .p) (c .before .before .before .before .pre .0) (c .before .before .before .before .pre .1) (asStepped (y .result)) (y .ensures), refl)
 
 sector-at-requires-2 : tie.Need-sector-at-requires-2 Inv-loop μ-loop
 sector-at-requires-2 c κs = search needs
@@ -52,10 +53,10 @@ returns c =
     let a = c .before .before .before .before .before .before .before .before .before .before .args in
     let x = c .before .before .before .before .before .loop in
     let y = c .before .before .before .sector-at2 in
-    let s = passed (a .track .now) (a .marks .now) (x .q) (asSector (y .result)) (y .ensures) (c .before .before .before .before .loop-test .taken) (c .before .before .before .before .before .before .before .before .before .before .pre .0 .within) (x .inv .1) in
+    let s = passed (a .track .now) (a .marks .now) (x .q) (asStepped (y .result)) (y .ensures) (c .before .before .before .before .loop-test .taken) (c .before .before .before .before .before .before .before .before .before .before .pre .0 .within) (x .inv .1) in
     let z = c .before .before .before .before .before .before .before .sector-at in
     c .sector-repeated .ensures
-    ∙ sym (ap answerOf (zero-flagged (a .track .now) (a .marks .now) (a .p) (c .before .before .before .before .before .before .before .before .before .before .pre .0) (c .before .before .before .before .before .before .before .before .before .before .pre .1) (asSector (z .result)) (z .ensures) ∙ x .inv .2 ∙ passed-repeated (a .track .now) (a .marks .now) (x .q) (y .result .number) (y .result .next) s (x .seen) (c .before .if1 .taken)))
+    ∙ sym (ap answerOf (zero-flagged (a .track .now) (a .marks .now) (a .p) (c .before .before .before .before .before .before .before .before .before .before .pre .0) (c .before .before .before .before .before .before .before .before .before .before .pre .1) (asStepped (z .result)) (z .ensures) ∙ x .inv .2 ∙ passed-repeated (a .track .now) (a .marks .now) (x .q) (y .result .number) (y .result .next) s (x .seen) (c .before .if1 .taken)))
 
 array-write-seen-2 : tie.Need-array-write-seen-2 Inv-loop μ-loop
 array-write-seen-2 c = search needs
@@ -65,7 +66,7 @@ loop-less c =
     let a = c .before .before .before .before .before .before .before .before .before .args in
     let x = c .before .before .before .before .loop in
     let y = c .before .before .sector-at2 in
-    let s = passed (a .track .now) (a .marks .now) (x .q) (asSector (y .result)) (y .ensures) (c .before .before .before .loop-test .taken) (c .before .before .before .before .before .before .before .before .before .pre .0 .within) (x .inv .1) in
+    let s = passed (a .track .now) (a .marks .now) (x .q) (asStepped (y .result)) (y .ensures) (c .before .before .before .loop-test .taken) (c .before .before .before .before .before .before .before .before .before .pre .0 .within) (x .inv .1) in
     omega arith
 
 loop-again : tie.Need-loop-again Inv-loop μ-loop
@@ -73,7 +74,7 @@ loop-again c =
     let a = c .before .before .before .before .before .before .before .before .before .args in
     let x = c .before .before .before .before .loop in
     let y = c .before .before .sector-at2 in
-    let s = passed (a .track .now) (a .marks .now) (x .q) (asSector (y .result)) (y .ensures) (c .before .before .before .loop-test .taken) (c .before .before .before .before .before .before .before .before .before .pre .0 .within) (x .inv .1) in
+    let s = passed (a .track .now) (a .marks .now) (x .q) (asStepped (y .result)) (y .ensures) (c .before .before .before .loop-test .taken) (c .before .before .before .before .before .before .before .before .before .pre .0 .within) (x .inv .1) in
     (length-set (x .seen) (y .result .number) 1 ∙ x .inv .0, passed-rest (a .track .now) (a .marks .now) (x .q) (y .result .number) (y .result .next) s, x .inv .2 ∙ passed-next (a .track .now) (a .marks .now) (x .q) (y .result .number) (y .result .next) s (x .seen) (c .if1 .left))
 
 done-requires : tie.Need-done-requires Inv-loop μ-loop
@@ -85,7 +86,7 @@ returns-2 c =
     let x = c .before .before .loop in
     let z = c .before .before .before .before .sector-at in
     c .done .ensures
-    ∙ sym (ap answerOf (zero-flagged (a .track .now) (a .marks .now) (a .p) (c .before .before .before .before .before .before .before .pre .0) (c .before .before .before .before .before .before .before .pre .1) (asSector (z .result)) (z .ensures) ∙ x .inv .2 ∙ flagged-none (x .seen) (x .q) (a .track .now) (a .marks .now) (c .before .loop-test .left)))
+    ∙ sym (ap answerOf (zero-flagged (a .track .now) (a .marks .now) (a .p) (c .before .before .before .before .before .before .before .pre .0) (c .before .before .before .before .before .before .before .pre .1) (asStepped (z .result)) (z .ensures) ∙ x .inv .2 ∙ flagged-none (x .seen) (x .q) (a .track .now) (a .marks .now) (c .before .loop-test .left)))
 
 pub judge-numbers-spec : {M : Type 1} → statement M
 judge-numbers-spec =
