@@ -2,4 +2,3 @@
 pub mod Rest
 pub mod Stepping
 pub mod From
-pub mod Number

@@ -1,3 +1,2 @@
 -- What stepping over the sectors of a track gives.
 pub mod Stepped
-pub mod Number

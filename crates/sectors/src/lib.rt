@@ -4,7 +4,6 @@ ghost use Prim.Native.Nat.{_≤_};
 ghost use Rattle.format.specs.Lent.{cells};
 ghost use Rattle.sector.specs.As.{asAddress};
 ghost use Rattle.sectors.specs.Stepped.{steppedIn, steppedAt, addressAt, asStepped};
-ghost use Rattle.sectors.specs.Number.{findNumber};
 
 // A sector: flag, S, KL, DL, the places of its information, where its data block ends, where the next span starts, and whether its own span runs to index.
 pub struct SectorAt {
@@ -86,32 +85,4 @@ pub fn address_at(track: &[u8], marks: &[u8], first: bool, p: usize) -> sector::
     let from = p + o;
     let to = p + n;
     sector::address_in(&track[from..to])
-}
-
-// The place of the count that carries a number, or that none does.
-pub enum NumberAt {
-    At(usize),
-    Absent,
-}
-
-// The place of the first count with S, stepping from sector 0's at place p to index or to a step that does not go on.
-pub fn find_number(track: &[u8], marks: &[u8], p: usize, s: u8) -> NumberAt
-    ensures { λ r. ⌜ r ≡ findNumber p (cells (now (track .entry)) (now (marks .entry))) s ⌝ }
-{
-    let n = search::cell_count(track, marks);
-    let mut at = p;
-    let mut first = true;
-    while at < n {
-        let x = sector_at(track, marks, first, at);
-        if x.number == s {
-            return NumberAt::At(at);
-        }
-        let next = x.next;
-        if next <= at {
-            return NumberAt::Absent;
-        }
-        at = next;
-        first = false;
-    }
-    NumberAt::Absent
 }

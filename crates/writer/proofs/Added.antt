@@ -1,32 +1,31 @@
 -- Add on an accepted track: the last sector, the track that is written, and the answers in their order.
 use mathlib.Core.Path.{_≡_, refl, sym, ap, ap₂, _∙_, subst}
-use Prim.Native.Nat.{ℕ, suc, _+_, _-_, _*_, _%_, _≤_, _<_}
+use Prim.Native.Nat.{ℕ, suc, _+_, _-_, _%_, _≤_, _<_}
 use native.Mathlib.Omega.{arith}
 use mathlib.Core.Bool.{Bool, true, false}
 use mathlib.Core.List.{List, [], _∷_, _++_, append-assoc, append-nil}
 use lib.ListN.{length, take, replicate, length-replicate}
 use lib.Dec.{eqb}
 use borrow.Author.Tests.{eq-eqb, ne-eqb, le-leb, lt-leb}
-use Rattle.format.specs.Answer.{Answer, wantedWrong, sectorRepeated, roomMissing}
-use Rattle.format.specs.Judged.{Judged, good, refused, then, require}
+use Rattle.format.specs.Answer.{wantedWrong, sectorRepeated, roomMissing}
+use Rattle.format.specs.Judged.{good, refused}
 use Rattle.format.specs.Lent.{cells, bytesOf, marksOf}
 use Rattle.format.specs.Home.{Home}
 use Rattle.format.specs.Span.{joined, none}
 use Rattle.format.specs.Sector.{Sector}
-use Rattle.format.specs.Accept.{Placed, Accepted, acceptCells}
+use Rattle.format.specs.Accept.{Placed, acceptCells}
 use Rattle.format.specs.Written.{gapOne, gapAfter, writtenSector, asPair}
 use Rattle.format.specs.Blank.{contentRight}
 use Rattle.format.specs.Add.{endOf, fromNumber, judgeAbsent, addedFlag, addedSector, addedTo, addCells}
 use Rattle.format.proofs.Judged.{false-true}
 use Rattle.format.proofs.Pairs.{pairOf, accepted-pair, length-bytes, length-marks}
 use Rattle.format.proofs.GrownSpans.{lastOf}
-use Rattle.format.proofs.NewSector.{lastEnd, lastGap, addNeed, keptCells, length-kept, added-room}
+use Rattle.format.proofs.NewSector.{addNeed, keptCells, length-kept, added-room}
 use Rattle.sector.specs.declared.fields.Address.{Address as AddressCode}
 use Rattle.sector.specs.As.{asAddress}
 use Rattle.encode.specs.Laid.{laidOver, laidAt}
 use Rattle.encode.specs.Room.{sectorFrom, sectorSize}
 use Rattle.encode.proofs.Cells.{bytes-append, marks-append}
-use Rattle.encode.proofs.Sectors.{sector-length}
 use Rattle.sectors.specs.declared.SectorAt.{SectorAt}
 use Rattle.sectors.specs.Stepped.{Stepped, steppedAt, addressAt, asStepped}
 use Rattle.sectors.proofs.From.{SectorsFrom, accepted-start}
@@ -64,11 +63,13 @@ pass-start t m start l = (
   },
 )
 
+-- The last sector, once it is reached.
 last-made : (t m : List ℕ) (start p b8 : ℕ) (x : Placed) (later : List Placed) (goal : Placed) (n : ℕ) → SectorsFrom t m p (eqb p start) (x ∷ later) → lastOf x later ≡ goal
     → (b8 + length later) % 2 ≡ n % 2 → b8 ≤ 1 → none later ≡ true → SectorsFrom t m p (eqb p start) (goal ∷ []) × (b8 ≡ n % 2)
 last-made t m start p b8 x [] goal n f g e l o = (subst (λ (z : Placed). SectorsFrom t m p (eqb p start) (z ∷ [])) g f, omega (arith, e))
 last-made t m start p b8 x (y ∷ ys) goal n f g e l o = false-true o
 
+-- The way that is left, one sector further on.
 next-made : (t m : List ℕ) (start q b8 : ℕ) (x : Placed) (later : List Placed) (goal : Placed) (n : ℕ) → SectorsFrom t m q false later → eqb q start ≡ false → lastOf x later ≡ goal
     → (b8 + length later) % 2 ≡ n % 2 → b8 ≤ 1 → none later ≡ false → Passing t m start q (1 - b8) goal n
 next-made t m start q b8 x [] goal n f e g k l o = false-true (sym o)
@@ -81,6 +82,7 @@ next-made t m start q b8 x (y ∷ ys) goal n f e g k l o =
       parity = omega (arith, k);
     }
 
+-- A sector that follows stands on the track.
 more-inside : (t m : List ℕ) (q : ℕ) (later : List Placed) → SectorsFrom t m q false later → none later ≡ false → q < length (cells t m)
 more-inside t m q [] f o = false-true (sym o)
 more-inside t m q (y ∷ ys) f o = omega (arith, f .0 .span-least, f .0 .span-inside)
@@ -141,6 +143,7 @@ module _ (end to l : ℕ) (s : Sector) (h : end ≤ to) (room : to + length (wri
       ∙ ap₂ (λ (y v : List ℕ). y ++ v) (ap (take end) e ∙ take-over end kept old k) (sym (bytes-gap (to - end))))
       ∙ append-assoc kept (bytesOf z) (bytesOf w) ∙ ap (λ (y : List ℕ). kept ++ y) (sym (bytes-append z w))
 
+  -- And in marks.
   pub added-marks : two ≡ laidAt end (replicate (to - end) 0) one → last ≡ laidAt to (marksOf (filledSpan (l - to) s)) two
       → last ≡ kept ++ marksOf (replicate (to - end) 0xFF ++ filledSpan (l - to) s)
   added-marks f g =
@@ -182,6 +185,7 @@ module _ (t m : List ℕ) (start : ℕ) (r : Readable t m start) (b7 s : ℕ) (k
       -- What Add writes behind the sectors x and xs, the last of which ends at `end` and has the gap up to `to`.
       module _ (absent : fromNumber s (r .accepted .sectors) ≡ []) (x : Placed) (xs : List Placed) (all : r .accepted .sectors ≡ x ∷ xs) (end to : ℕ)
           (end-is : end ≡ endOf (lastOf x xs)) (to-is : to ≡ end + gapAfter gapOne (lastOf x xs .sector)) (low : end ≤ length c) where
+        -- The new sector.
         abbrev pub new : Sector
         new = addedSector (r .accepted .home) (suc (0 + length xs)) (lastOf x xs) b7 s key body
 
@@ -269,6 +273,7 @@ readable-low t m start r =
     let z = accepted-start t m (r .accepted) (r .is-accepted) in
     omega (arith, z .start-most, z .length-least, r .starts)
 
+-- Every readable track has them.
 pub all-sectors : (t m : List ℕ) (start : ℕ) (r : Readable t m start) → AllSectors t m start r
 all-sectors t m start r =
     let f = readable-steps t m start r in

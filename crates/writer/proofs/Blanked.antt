@@ -1,10 +1,10 @@
 -- What Blank gives, by its tests in their order, and the whole track that it writes.
-use mathlib.Core.Path.{_≡_, refl, sym, ap, _∙_}
+use mathlib.Core.Path.{_≡_, sym, ap, _∙_}
 use Prim.Native.Nat.{ℕ, _+_, _-_, _≤_, _<_}
 use native.Mathlib.Omega.{arith}
 use mathlib.Core.Bool.{true, false, _&&_}
-use mathlib.Core.List.{List, [], _∷_, _++_, append-nil}
-use lib.ListN.{length, take, replicate}
+use mathlib.Core.List.{List, _++_, append-nil}
+use lib.ListN.{length, take}
 use lib.Dec.{leb, eqb}
 use borrow.Author.Tests.{le-leb, lt-leb, eqb-true}
 use Rattle.format.specs.Answer.{lentWrong, wantedWrong, roomMissing}
@@ -13,7 +13,7 @@ use Rattle.format.specs.Lent.{lengthRight, lentForWriting, bytesOf, marksOf}
 use Rattle.format.specs.Address.{Address, addressInRange, addressRight}
 use Rattle.format.specs.Block.{leastGap}
 use Rattle.format.specs.Sector.{Sector}
-use Rattle.format.specs.Written.{gapOne, writtenSector, reach, writtenSpans, writtenBehind, asPair}
+use Rattle.format.specs.Written.{writtenSector, reach, writtenSpans, writtenBehind, asPair}
 use Rattle.format.specs.Blank.{contentRight, namedBy, blankRight, writtenHead, blankSector, blank}
 use Rattle.format.proofs.Judged.{and-both}
 use Rattle.format.proofs.Pairs.{pairOf, length-bytes, length-marks}

@@ -3,25 +3,25 @@ use mathlib.Core.Path.{_≡_, refl, sym, ap, ap₂, _∙_, subst}
 use Prim.Native.Nat.{ℕ, _+_, _-_, _/_, _%_, _≤_, _<_}
 use native.Mathlib.Omega.{arith}
 use mathlib.Core.Bool.{Bool, true, false}
-use mathlib.Core.List.{List, [], _∷_, _++_, map}
-use lib.ListN.{length, take, drop}
+use mathlib.Core.List.{List, [], _∷_, _++_}
+use lib.ListN.{length, take}
 use lib.Seq.{length-take-le}
 use lib.Dec.{eqb}
 use borrow.Author.Tests.{le-leb, lt-leb}
 use Rattle.crc.specs.Check.{pick}
-use Rattle.format.specs.Answer.{lentWrong, sectorMissing, wantedWrong, roomMissing}
-use Rattle.format.specs.Judged.{Judged, good, refused}
+use Rattle.format.specs.Answer.{sectorMissing, wantedWrong, roomMissing}
+use Rattle.format.specs.Judged.{good, refused}
 use Rattle.format.specs.Lent.{cells, bytesOf, marksOf, unmarked}
 use Rattle.format.specs.Block.{leastGap}
 use Rattle.format.specs.Span.{none}
 use Rattle.format.specs.Sector.{Sector}
-use Rattle.format.specs.Accept.{Placed, Accepted, acceptCells, accept}
-use Rattle.format.specs.Written.{gapOne, gapAfter, writtenSector, reach, writtenSpans, writtenBehind, Pair, asPair}
+use Rattle.format.specs.Accept.{Placed, acceptCells}
+use Rattle.format.specs.Written.{gapOne, gapAfter, writtenSector, reach, writtenBehind, asPair}
 use Rattle.format.specs.Blank.{contentRight}
-use Rattle.format.specs.Add.{bothLent, fromNumber}
-use Rattle.format.specs.Correct.{withContent, sectorsOf, rewrittenFrom, correctCells, correct}
+use Rattle.format.specs.Add.{fromNumber}
+use Rattle.format.specs.Correct.{withContent, sectorsOf, rewrittenFrom, correctCells}
 use Rattle.format.proofs.Lists.{take-map}
-use Rattle.format.proofs.Pairs.{pairOf, accepted-pair, bytes-cells, marks-cells, length-cells}
+use Rattle.format.proofs.Pairs.{pairOf, accepted-pair, bytes-cells, marks-cells}
 use Rattle.sector.specs.declared.fields.Address.{Address as AddressCode}
 use Rattle.sector.specs.As.{asAddress}
 use Rattle.encode.specs.Laid.{laidOver, laidAt}
@@ -30,9 +30,9 @@ use Rattle.encode.proofs.Cells.{bytes-append, marks-append}
 use Rattle.encode.proofs.Sectors.{sector-length}
 use Rattle.sectors.specs.declared.SectorAt.{SectorAt}
 use Rattle.sectors.specs.Stepped.{Stepped, steppedAt, addressAt, asStepped}
-use Rattle.sectors.proofs.From.{SectorsFrom, Step, step-at, steps-end, Started, accepted-start}
+use Rattle.sectors.proofs.From.{SectorsFrom, step-at, steps-end, accepted-start}
 use Rattle.writer.specs.After.{filledSpan}
-use Rattle.writer.specs.Left.{Readable, Left, LeftRoom, RoomFor, laterCells, farthest, correctedEnd, correctedCells}
+use Rattle.writer.specs.Left.{Readable, Left, RoomFor, laterCells, farthest, correctedEnd, correctedCells}
 use Rattle.writer.proofs.Filled.{take-over}
 use Rattle.writer.proofs.Farthest.{farthest-from}
 use Rattle.writer.proofs.Later.{spanEnd, room-split, none-sectors, bytes-more, marks-more}
@@ -42,6 +42,7 @@ pub readable-steps : (t m : List ℕ) (start : ℕ) (r : Readable t m start) →
 readable-steps t m start r =
     subst (λ (p : ℕ). SectorsFrom t m p true (r .accepted .sectors)) (sym (r .starts)) (accepted-start t m (r .accepted) (r .is-accepted) .steps)
 
+-- They are what is left from its sector 0 on.
 pub readable-left : (t m : List ℕ) (start : ℕ) → Readable t m start → Left t m start true
 readable-left t m start r =
     let z = accepted-start t m (r .accepted) (r .is-accepted) in
@@ -68,6 +69,7 @@ pub record FirstLeft (t m : List ℕ) (q : ℕ) (first : Bool) : Type 0 where
   pub later : List Placed
   pub steps : SectorsFrom t m q first (sector ∷ later)
 
+-- Before the end there is one.
 pub first-left : (t m : List ℕ) (q : ℕ) (first : Bool) → Left t m q first → q < length t → FirstLeft t m q first
 first-left t m q first u l =
     let z = some-left t m q first (u .sectors) (u .steps) (omega (arith, u .cells-length)) in
@@ -93,6 +95,7 @@ pub record FoundAt (t m : List ℕ) (start q s : ℕ) (r : Readable t m start) :
   pub steps : SectorsFrom t m q (eqb q start) (sector ∷ later)
   pub place-is : sector .place ≡ q
 
+-- It is found where the search ends before index.
 pub found-at : (t m : List ℕ) (start q s : ℕ) (r : Readable t m start) → SectorsFrom t m q (eqb q start) (fromNumber s (r .accepted .sectors)) → q < length t → FoundAt t m start q s r
 found-at t m start q s r f l =
     let u = readable-left t m start r in
@@ -106,11 +109,12 @@ found-none t m start q s r f l =
     let u = readable-left t m start r in
     steps-end t m q (eqb q start) (fromNumber s (r .accepted .sectors)) f (omega (arith, u .cells-length))
 
--- The bytes of the first n cells of a track, and their marks.
+-- The bytes of the first n cells of a track.
 pub bytes-front : (n : ℕ) (t m : List ℕ) → length m ≡ length t → unmarked t ≡ true → bytesOf (take n (cells t m)) ≡ take n t
 unfolding bytesOf
 bytes-front n t m e u = sym (take-map (λ (x : ℕ). x % 256) n (cells t m)) ∙ ap (take n) (bytes-cells t m e u)
 
+-- And their marks.
 pub marks-front : (n : ℕ) (t m : List ℕ) → length m ≡ length t → unmarked t ≡ true → marksOf (take n (cells t m)) ≡ take n m
 unfolding marksOf
 marks-front n t m e u = sym (take-map (λ (x : ℕ). x / 256) n (cells t m)) ∙ ap (take n) (marks-cells t m e u)
@@ -128,11 +132,12 @@ module _ (t m : List ℕ) (q : ℕ) (first : Bool) (x : Placed) (xs : List Place
     abbrev new : Sector
     new = withContent key body (x .sector)
 
-    -- What it takes with the new key and data, and its gap.
+    -- What it takes with the new key and data.
     pub size-new : length (writtenSector new) ≡ sectorSize first (length key) (length body)
     unfolding withContent
     size-new = sector-length new ∙ ap (λ (b : Bool). sectorSize b (length key) (length body)) (f .0 .first-is)
 
+    -- And its gap.
     pub gap-new : gapAfter gapOne new ≡ gapOne (length key) (length body)
     unfolding gapAfter withContent
     gap-new = refl
@@ -196,11 +201,12 @@ module _ (t m : List ℕ) (q : ℕ) (first : Bool) (x : Placed) (xs : List Place
             (n ∙ ap (λ (w : Sector). laidAt q (marksOf (filledSpan (to - q) w)) new') (content-made a ad)) refl
             ∙ ap (λ (w : List ℕ). w ++ marksOf (correctedCells l q key body x xs)) (ap (take q) over ∙ take-over q kept old qk)
 
--- A front that is kept and cells behind it, as bytes and as marks.
+-- A front that is kept and cells behind it, as bytes.
 pub kept-bytes : (q : ℕ) (t m W X T : List ℕ) → length m ≡ length t → unmarked t ≡ true → W ≡ X → T ≡ take q t ++ bytesOf W → T ≡ bytesOf (take q (cells t m) ++ X)
 kept-bytes q t m W X T e u z h =
     h ∙ ap₂ (λ (a b : List ℕ). a ++ bytesOf b) (sym (bytes-front q t m e u)) z ∙ sym (bytes-append (take q (cells t m)) X)
 
+-- And as marks.
 pub kept-marks : (q : ℕ) (t m W X M : List ℕ) → length m ≡ length t → unmarked t ≡ true → W ≡ X → M ≡ take q m ++ marksOf W → M ≡ marksOf (take q (cells t m) ++ X)
 kept-marks q t m W X M e u z h =
     h ∙ ap₂ (λ (a b : List ℕ). a ++ marksOf b) (sym (marks-front q t m e u)) z ∙ sym (marks-append (take q (cells t m)) X)

@@ -1,8 +1,8 @@
 -- Where the last block ends, summed sector by sector.
-use mathlib.Core.Path.{_≡_, refl, sym, ap, ap₂, _∙_, subst}
+use mathlib.Core.Path.{_≡_, refl, sym, ap, ap₂, _∙_}
 use Prim.Native.Nat.{ℕ, _+_, _*_, _≤_, _<_}
 use native.Mathlib.Omega.{arith}
-use mathlib.Core.Bool.{Bool, true, false}
+use mathlib.Core.Bool.{Bool, false}
 use mathlib.Core.List.{List, [], _∷_}
 use lib.ListN.{length}
 use Rattle.format.specs.Lent.{cells}
@@ -39,18 +39,21 @@ pub farthest-none : (end gap : ℕ) (xs : List Placed) → xs ≡ [] → farthes
 unfolding farthest
 farthest-none end gap xs e = ap (farthest end gap) e ∙ omega arith
 
+-- A gap is at most twice what its sector takes.
 gap-below : (b : Bool) (kl dl : ℕ) → gapOne kl dl ≤ 2 * sectorSize b kl dl
 unfolding gapOne sectorSize
 gap-below b kl dl = omega (arith, opening-least b, key-size-least kl, data-size-least dl)
 
 -- What a sector that is stepped over takes, and its gap.
 module _ (t m : List ℕ) (p : ℕ) (first : Bool) (xs : List Placed) (s : SectorAt) (v : Step t m p first xs s) where
+  -- The written sector takes what the numbers read say.
   pub size-stepped : length (writtenSector (v .x .sector)) ≡ sectorSize first (s .«key_length») (s .«data_length»)
   size-stepped =
       sector-length (v .x .sector)
       ∙ ap (λ (b : Bool). sectorSize b (length (v .x .sector .keyBytes)) (length (v .x .sector .dataBytes))) (v .first-is)
       ∙ ap₂ (sectorSize first) (sym (v .key-length-is)) (sym (v .data-length-is))
 
+  -- So does its gap.
   pub gap-stepped : gapAfter gapOne (v .x .sector) ≡ gapOne (s .«key_length») (s .«data_length»)
   unfolding gapAfter
   gap-stepped = ap₂ gapOne (sym (v .key-length-is)) (sym (v .data-length-is))
@@ -96,6 +99,7 @@ module _ (t m : List ℕ) (p₀ end₀ gap₀ p end gap : ℕ) (u : Left t m p�
       sym (farthest-none end gap (r .left) z) ∙ r .same
 
   module _ (l : p < length t) (x : SectorAt) (e : asStepped x ≡ steppedAt false p (cells t m)) where
+    -- The step over the sector at p.
     pub sum-step : (all : List Placed) (f : SectorsFrom t m p₀ false all) → Step t m p false (i .1 all f .left) x
     sum-step all f = let r = i .1 all f in step-at t m p false (r .left) x (r .steps) (omega (arith, u .cells-length)) e
 
@@ -107,9 +111,11 @@ module _ (t m : List ℕ) (p₀ end₀ gap₀ p end gap : ℕ) (u : Left t m p�
     pub sum-onward : (p + 49 ≤ x .next) × (x .next ≤ length t)
     sum-onward = (sumStep .onward, omega (arith, sumStep .next-inside, u .cells-length))
 
+    -- KL and DL of the sector at p fit their bytes.
     pub sum-lengths : (x .«key_length» ≤ 255) × (x .«data_length» ≤ 65535)
     sum-lengths = lengths-stepped t m p false (i .1 (u .sectors) (u .steps) .left) x sumStep
 
+    -- The sum stays far below what a number can hold.
     pub sum-bound : end + gap + sectorSize false (x .«key_length») (x .«data_length») + gapOne (x .«key_length») (x .«data_length») ≤ 100000 + 3 * x .next
     sum-bound = omega (arith, i .0, grows-stepped t m p false (i .1 (u .sectors) (u .steps) .left) x sumStep)
 

@@ -1,15 +1,15 @@
 -- A written sector and the gap behind it: its length, bytes and marks, and where it is laid.
-use mathlib.Core.Path.{_≡_, refl, sym, ap, _∙_}
+use mathlib.Core.Path.{_≡_, sym, ap, _∙_}
 use Prim.Native.Nat.{ℕ, _+_, _-_, _≤_, _<_}
 use native.Mathlib.Omega.{arith}
 use mathlib.Core.Bool.{Bool, true, false}
-use mathlib.Core.List.{List, [], _∷_, _++_, append-nil, append-assoc}
+use mathlib.Core.List.{List, [], _++_, append-nil, append-assoc}
 use lib.ListN.{length, take, drop, replicate, length-append, length-replicate, length-drop, drop-of-length-le}
 use lib.Seq.{take-at, length-take-le}
 use lib.Dec.{lit<, eqb}
-use borrow.Author.Tests.{le-leb, eq-eqb, ne-eqb, leb-true}
+use borrow.Author.Tests.{leb-true}
 use borrow.Rule.Slice.PartMut.{putMid}
-use Rattle.format.specs.Lent.{bytesOf, marksOf, unmarked}
+use Rattle.format.specs.Lent.{bytesOf, marksOf}
 use Rattle.format.specs.Block.{keySize, dataSize}
 use Rattle.format.specs.Sector.{Sector, openingLength}
 use Rattle.format.specs.Written.{writtenSector}
@@ -19,9 +19,8 @@ use Rattle.format.proofs.Opening.{unmarked-replicate}
 use Rattle.format.proofs.Pairs.{length-bytes, length-marks}
 use Rattle.encode.specs.Laid.{laidOver, laidAt, laidIf, laidAtIf}
 use Rattle.encode.specs.Room.{sectorSize}
-use Rattle.encode.proofs.Laid.{laid-behind, laid-front, laid-back-if, part-rest}
+use Rattle.encode.proofs.Laid.{laid-behind, laid-back-if, part-rest}
 use Rattle.encode.proofs.Cells.{bytes-append, marks-append, bytes-unmarked, marks-unmarked}
-use Rattle.encode.proofs.Sectors.{sector-length}
 use Rattle.writer.specs.After.{filledSpan}
 
 -- A part that is lent from place a on has what is left behind a.

@@ -1,5 +1,5 @@
 -- What the judgement of the old track tells, and what both lent pairs within the rule do.
-use mathlib.Core.Path.{_≡_, refl, sym, ap, _∙_}
+use mathlib.Core.Path.{_≡_, sym, ap}
 use Prim.Native.Nat.{ℕ, _+_}
 use mathlib.Core.Bool.{true, false, _&&_}
 use mathlib.Core.List.{List}
@@ -66,16 +66,18 @@ module _ (t m : List ℕ) (l k : ℕ) (e : bothLent t m l k ≡ true) (s : ℕ) 
   unfolding correct
   correct-cells = rw e
 
--- The same for Add.
+-- Add: 1 where a pair is lent out of rule.
 pub add-lent : (t m : List ℕ) (l k b7 s : ℕ) (key body : List ℕ) → bothLent t m l k ≡ false → add gapOne t m l k b7 s key body ≡ refused lentWrong
 unfolding add
 add-lent t m l k b7 s key body e = rw e
 
 module _ (t m : List ℕ) (l k : ℕ) (e : bothLent t m l k ≡ true) (b7 s : ℕ) (key body : List ℕ) where
+  -- The track's own answer where it is refused,
   pub add-refused : (x : Answer) → accept t m ≡ refused x → add gapOne t m l k b7 s key body ≡ refused x
   unfolding add addCells asPair
   add-refused x h = rw (e, cells-refused t m l k e x h)
 
+  -- and else what its cells give.
   pub add-cells : add gapOne t m l k b7 s key body ≡ asPair (addCells gapOne (cells t m) b7 s key body)
   unfolding add
   add-cells = rw e

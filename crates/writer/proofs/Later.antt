@@ -2,13 +2,12 @@
 use mathlib.Core.Path.{_≡_, refl, sym, ap, ap₂, _∙_, subst}
 use Prim.Native.Nat.{ℕ, _+_, _-_, _≤_, _<_}
 use native.Mathlib.Omega.{arith}
-use mathlib.Core.Bool.{Bool, true, false}
+use mathlib.Core.Bool.{Bool, false}
 use mathlib.Core.List.{List, [], _∷_, _++_, append-assoc, append-nil}
 use lib.ListN.{length, take, drop, replicate, length-drop}
 use lib.Seq.{take-length, length-take-le}
 use Rattle.crc.specs.Check.{pick}
 use Rattle.format.specs.Lent.{cells, bytesOf, marksOf}
-use Rattle.format.specs.Address.{Address}
 use Rattle.format.specs.Span.{joined, none}
 use Rattle.format.specs.Sector.{Sector}
 use Rattle.format.specs.Accept.{Placed}
@@ -24,7 +23,7 @@ use Rattle.sectors.specs.declared.SectorAt.{SectorAt}
 use Rattle.sectors.specs.Stepped.{steppedAt, addressAt, asStepped}
 use Rattle.sectors.proofs.From.{SectorsFrom, Step, step-at, steps-end}
 use Rattle.writer.specs.After.{filledSpan}
-use Rattle.writer.specs.Left.{Left, LeftRoom, RoomFor, laterCells}
+use Rattle.writer.specs.Left.{LeftRoom, RoomFor, laterCells}
 use Rattle.writer.proofs.Filled.{filled-length, take-laid}
 use Rattle.writer.proofs.Farthest.{size-stepped, gap-stepped, lengths-stepped}
 
@@ -43,6 +42,7 @@ later-split l at to s (r ∷ rs) e =
     let n : l - at - (length w + gapAfter gapOne s) ≡ l - to = omega arith in
     ap₂ (λ (i j : ℕ). (w ++ replicate i 0xFF) ++ joined (writtenSpans gapOne j (r ∷ rs))) g n
 
+-- No sectors are left where no placed ones are.
 pub none-sectors : (xs : List Placed) → none xs ≡ none (sectorsOf xs)
 none-sectors [] = refl
 none-sectors (x ∷ xs) = refl
@@ -134,6 +134,7 @@ module _ (t m : List ℕ) (p at : ℕ) (nt nm F G : List ℕ) (i : Going t m p a
     pub going-step : Step t m p false (i .left) x
     going-step = step-at t m p false (i .left) x (i .steps) (omega (arith, whole)) e
 
+    -- KL and DL of the sector at p fit their bytes.
     pub going-lengths : (x .«key_length» ≤ 255) × (x .«data_length» ≤ 65535)
     going-lengths = lengths-stepped t m p false (i .left) x going-step
 

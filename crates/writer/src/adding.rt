@@ -59,8 +59,8 @@ fn added_flag(f: u8, b8: u8, b7: u8) -> u8
 fn write_added(
     track: &[u8],
     marks: &[u8],
-    new_track: &mut [u8],
-    new_marks: &mut [u8],
+    out: &mut [u8],
+    out_marks: &mut [u8],
     end: usize,
     to: usize,
     flag: u8,
@@ -71,34 +71,22 @@ fn write_added(
 )
     requires { ⌜ (length (now key) ≤ 255) × (length (now body) ≤ 65535) ⌝ }
     requires { ⌜ (end ≤ to) × (to + sectorSize false (length (now key)) (length (now body)) ≤ length (now track)) ⌝ }
-    requires { ⌜ (length (now marks) ≡ length (now track)) × (length (now «new_track») ≡ length (now track)) × (length (now «new_marks») ≡ length (now track)) ⌝ }
-    ensures bytes { λ _. ⌜ now («new_track» .exit) ≡ take end (now (track .entry)) ++ bytesOf (replicate (to - end) 0xFF ++ filledSpan (length (now (track .entry)) - to) (sectorFrom false flag (a .cylinder) (a .head) s (now (key .entry)) (now (body .entry)))) ⌝ }
-    ensures marks { λ _. ⌜ now («new_marks» .exit) ≡ take end (now (marks .entry)) ++ marksOf (replicate (to - end) 0xFF ++ filledSpan (length (now (track .entry)) - to) (sectorFrom false flag (a .cylinder) (a .head) s (now (key .entry)) (now (body .entry)))) ⌝ }
+    requires { ⌜ (length (now marks) ≡ length (now track)) × (length (now out) ≡ length (now track)) × (length (now «out_marks») ≡ length (now track)) ⌝ }
+    ensures bytes { λ _. ⌜ now (out .exit) ≡ take end (now (track .entry)) ++ bytesOf (replicate (to - end) 0xFF ++ filledSpan (length (now (track .entry)) - to) (sectorFrom false flag (a .cylinder) (a .head) s (now (key .entry)) (now (body .entry)))) ⌝ }
+    ensures marks { λ _. ⌜ now («out_marks» .exit) ≡ take end (now (marks .entry)) ++ marksOf (replicate (to - end) 0xFF ++ filledSpan (length (now (track .entry)) - to) (sectorFrom false flag (a .cylinder) (a .head) s (now (key .entry)) (now (body .entry)))) ⌝ }
 {
-    copy_kept(track, marks, new_track, new_marks, end);
-    encode::fill_gap(new_track, new_marks, end, to);
+    copy_kept(track, marks, out, out_marks, end);
+    encode::fill_gap(out, out_marks, end, to);
     let l = track.len();
-    put_span(
-        new_track,
-        new_marks,
-        to,
-        l,
-        false,
-        flag,
-        a.cylinder,
-        a.head,
-        s,
-        key,
-        body,
-    );
+    put_span(out, out_marks, to, l, false, flag, a, s, key, body);
 }
 
 // Add behind the last sector of an accepted track on which no sector carries S: 15, and then the new track is written.
 fn add_behind(
     track: &[u8],
     marks: &[u8],
-    new_track: &mut [u8],
-    new_marks: &mut [u8],
+    out: &mut [u8],
+    out_marks: &mut [u8],
     start: usize,
     f: u8,
     b7: u8,
@@ -108,10 +96,10 @@ fn add_behind(
 ) -> format::Answer
     requires { ⌜ Addable (now track) (now marks) start f s ⌝ }
     requires { ⌜ (b7 ≤ 1) × (contentRight (now key) (now body) ≡ true) ⌝ }
-    requires { ⌜ (length (now «new_track») ≡ length (now track)) × (length (now «new_marks») ≡ length (now track)) ⌝ }
+    requires { ⌜ (length (now out) ≡ length (now track)) × (length (now «out_marks») ≡ length (now track)) ⌝ }
     ensures answer { λ r. ⌜ answerAt (r .number) (r .place) ≡ answerOf (asPair (addCells gapOne (cells (now (track .entry)) (now (marks .entry))) b7 s (now (key .entry)) (now (body .entry)))) ⌝ }
-    ensures bytes { λ _. ⌜ now («new_track» .exit) ≡ trackAfter (asPair (addCells gapOne (cells (now (track .entry)) (now (marks .entry))) b7 s (now (key .entry)) (now (body .entry)))) (now («new_track» .entry)) ⌝ }
-    ensures marks { λ _. ⌜ now («new_marks» .exit) ≡ marksAfter (asPair (addCells gapOne (cells (now (track .entry)) (now (marks .entry))) b7 s (now (key .entry)) (now (body .entry)))) (now («new_marks» .entry)) ⌝ }
+    ensures bytes { λ _. ⌜ now (out .exit) ≡ trackAfter (asPair (addCells gapOne (cells (now (track .entry)) (now (marks .entry))) b7 s (now (key .entry)) (now (body .entry)))) (now (out .entry)) ⌝ }
+    ensures marks { λ _. ⌜ now («out_marks» .exit) ≡ marksAfter (asPair (addCells gapOne (cells (now (track .entry)) (now (marks .entry))) b7 s (now (key .entry)) (now (body .entry)))) (now («out_marks» .entry)) ⌝ }
 {
     let last = last_of(track, marks, start);
     let p = last.place;
@@ -124,19 +112,7 @@ fn add_behind(
     }
     let a = sectors::address_at(track, marks, p == start, p);
     let flag = added_flag(f, last.b8, b7);
-    write_added(
-        track,
-        marks,
-        new_track,
-        new_marks,
-        end,
-        to,
-        flag,
-        a,
-        s,
-        key,
-        body,
-    );
+    write_added(track, marks, out, out_marks, end, to, flag, a, s, key, body);
     format::done()
 }
 
@@ -144,8 +120,8 @@ fn add_behind(
 fn add_on(
     track: &[u8],
     marks: &[u8],
-    new_track: &mut [u8],
-    new_marks: &mut [u8],
+    out: &mut [u8],
+    out_marks: &mut [u8],
     start: usize,
     f: u8,
     b7: u8,
@@ -154,10 +130,10 @@ fn add_on(
     body: &[u8],
 ) -> format::Answer
     requires { ⌜ ReadableFlag (now track) (now marks) start f ⌝ }
-    requires { ⌜ (length (now «new_track») ≡ length (now track)) × (length (now «new_marks») ≡ length (now track)) ⌝ }
+    requires { ⌜ (length (now out) ≡ length (now track)) × (length (now «out_marks») ≡ length (now track)) ⌝ }
     ensures answer { λ r. ⌜ answerAt (r .number) (r .place) ≡ answerOf (asPair (addCells gapOne (cells (now (track .entry)) (now (marks .entry))) b7 s (now (key .entry)) (now (body .entry)))) ⌝ }
-    ensures bytes { λ _. ⌜ now («new_track» .exit) ≡ trackAfter (asPair (addCells gapOne (cells (now (track .entry)) (now (marks .entry))) b7 s (now (key .entry)) (now (body .entry)))) (now («new_track» .entry)) ⌝ }
-    ensures marks { λ _. ⌜ now («new_marks» .exit) ≡ marksAfter (asPair (addCells gapOne (cells (now (track .entry)) (now (marks .entry))) b7 s (now (key .entry)) (now (body .entry)))) (now («new_marks» .entry)) ⌝ }
+    ensures bytes { λ _. ⌜ now (out .exit) ≡ trackAfter (asPair (addCells gapOne (cells (now (track .entry)) (now (marks .entry))) b7 s (now (key .entry)) (now (body .entry)))) (now (out .entry)) ⌝ }
+    ensures marks { λ _. ⌜ now («out_marks» .exit) ≡ marksAfter (asPair (addCells gapOne (cells (now (track .entry)) (now (marks .entry))) b7 s (now (key .entry)) (now (body .entry)))) (now («out_marks» .entry)) ⌝ }
 {
     if 1 < b7 {
         return format::wanted_wrong();
@@ -169,18 +145,7 @@ fn add_on(
     if q < track.len() {
         return format::sector_repeated(q);
     }
-    add_behind(
-        track,
-        marks,
-        new_track,
-        new_marks,
-        start,
-        f,
-        b7,
-        s,
-        key,
-        body,
-    )
+    add_behind(track, marks, out, out_marks, start, f, b7, s, key, body)
 }
 
 // Add: 1, the old track's own answer, 14, 13 and 15 leave every byte and mark as it was; 0 where the new track is written.

@@ -61,19 +61,7 @@ fn write_blank(
 {
     encode::write_head(track, marks, flag, own.cylinder, own.head);
     let l = track.len();
-    put_span(
-        track,
-        marks,
-        55,
-        l,
-        true,
-        flag,
-        named.cylinder,
-        named.head,
-        s,
-        key,
-        body,
-    );
+    put_span(track, marks, 55, l, true, flag, named, s, key, body);
 }
 
 // Blank: 1, 14 and 15 leave every byte and mark as it was; 0 where home and sector 0 stand in the pair.

@@ -1,6 +1,6 @@
 // Correct: a sector gets a new key and data, and all behind its count's opening is written anew.
 ghost use mathlib.Core.Path.{_≡_};
-ghost use mathlib.Core.Bool.{true, false};
+ghost use mathlib.Core.Bool.{false};
 ghost use mathlib.Core.List.{List, _∷_, _++_};
 ghost use Prim.Native.Nat.{_+_, _-_, _≤_, _<_};
 ghost use lib.ListN.{length, take};
@@ -44,36 +44,34 @@ fn end_of_later(track: &[u8], marks: &[u8], p: usize, end: usize, gap: usize) ->
 fn write_later(
     track: &[u8],
     marks: &[u8],
-    new_track: &mut [u8],
-    new_marks: &mut [u8],
+    out: &mut [u8],
+    out_marks: &mut [u8],
     p: usize,
     at: usize,
 )
     requires { ⌜ LeftRoom (now track) (now marks) p at ⌝ }
-    requires { ⌜ (length (now «new_track») ≡ length (now track)) × (length (now «new_marks») ≡ length (now track)) ⌝ }
-    ensures bytes { λ _. ⌜ ((xs : List Placed) → SectorsFrom (now (track .entry)) (now (marks .entry)) p false xs → RoomFor (length (now (track .entry))) at xs → now («new_track» .exit) ≡ take at (now («new_track» .entry)) ++ bytesOf (laterCells (length (now (track .entry)) - at) xs)) ⌝ }
-    ensures marks { λ _. ⌜ ((xs : List Placed) → SectorsFrom (now (track .entry)) (now (marks .entry)) p false xs → RoomFor (length (now (track .entry))) at xs → now («new_marks» .exit) ≡ take at (now («new_marks» .entry)) ++ marksOf (laterCells (length (now (track .entry)) - at) xs)) ⌝ }
+    requires { ⌜ (length (now out) ≡ length (now track)) × (length (now «out_marks») ≡ length (now track)) ⌝ }
+    ensures bytes { λ _. ⌜ ((xs : List Placed) → SectorsFrom (now (track .entry)) (now (marks .entry)) p false xs → RoomFor (length (now (track .entry))) at xs → now (out .exit) ≡ take at (now (out .entry)) ++ bytesOf (laterCells (length (now (track .entry)) - at) xs)) ⌝ }
+    ensures marks { λ _. ⌜ ((xs : List Placed) → SectorsFrom (now (track .entry)) (now (marks .entry)) p false xs → RoomFor (length (now (track .entry))) at xs → now («out_marks» .exit) ≡ take at (now («out_marks» .entry)) ++ marksOf (laterCells (length (now (track .entry)) - at) xs)) ⌝ }
 {
-    let l = track.len();
     let mut p = p;
     let mut at = at;
-    while p < l {
+    while p < track.len() {
         let x = sectors::sector_at(track, marks, false, p);
         let a = sectors::address_at(track, marks, false, p);
-        let to = span_end(at, false, x.key_length, x.data_length, x.last, l);
+        let to = span_end(at, false, x.key_length, x.data_length, x.last, track.len());
         let k = x.key_place;
         let k_end = k + x.key_length;
         let d = x.data_place;
         let d_end = d + x.data_length;
         put_span(
-            new_track,
-            new_marks,
+            out,
+            out_marks,
             at,
             to,
             false,
             x.flag,
-            a.cylinder,
-            a.head,
+            a,
             x.number,
             &track[k..k_end],
             &track[d..d_end],
@@ -108,8 +106,8 @@ fn corrected_end(
 fn write_corrected(
     track: &[u8],
     marks: &[u8],
-    new_track: &mut [u8],
-    new_marks: &mut [u8],
+    out: &mut [u8],
+    out_marks: &mut [u8],
     q: usize,
     first: bool,
     key: &[u8],
@@ -118,47 +116,35 @@ fn write_corrected(
     requires { ⌜ Left (now track) (now marks) q first ⌝ }
     requires { ⌜ (q < length (now track)) × ((x : Placed) (xs : List Placed) → SectorsFrom (now track) (now marks) q first (x ∷ xs) → correctedEnd q (now key) (now body) x xs ≤ length (now track)) ⌝ }
     requires { ⌜ (length (now key) ≤ 255) × (length (now body) ≤ 65535) ⌝ }
-    requires { ⌜ (length (now marks) ≡ length (now track)) × (length (now «new_track») ≡ length (now track)) × (length (now «new_marks») ≡ length (now track)) ⌝ }
-    ensures bytes { λ _. ⌜ ((x : Placed) (xs : List Placed) → SectorsFrom (now (track .entry)) (now (marks .entry)) q first (x ∷ xs) → now («new_track» .exit) ≡ take q (now (track .entry)) ++ bytesOf (correctedCells (length (now (track .entry))) q (now (key .entry)) (now (body .entry)) x xs)) ⌝ }
-    ensures marks { λ _. ⌜ ((x : Placed) (xs : List Placed) → SectorsFrom (now (track .entry)) (now (marks .entry)) q first (x ∷ xs) → now («new_marks» .exit) ≡ take q (now (marks .entry)) ++ marksOf (correctedCells (length (now (track .entry))) q (now (key .entry)) (now (body .entry)) x xs)) ⌝ }
+    requires { ⌜ (length (now marks) ≡ length (now track)) × (length (now out) ≡ length (now track)) × (length (now «out_marks») ≡ length (now track)) ⌝ }
+    ensures bytes { λ _. ⌜ ((x : Placed) (xs : List Placed) → SectorsFrom (now (track .entry)) (now (marks .entry)) q first (x ∷ xs) → now (out .exit) ≡ take q (now (track .entry)) ++ bytesOf (correctedCells (length (now (track .entry))) q (now (key .entry)) (now (body .entry)) x xs)) ⌝ }
+    ensures marks { λ _. ⌜ ((x : Placed) (xs : List Placed) → SectorsFrom (now (track .entry)) (now (marks .entry)) q first (x ∷ xs) → now («out_marks» .exit) ≡ take q (now (marks .entry)) ++ marksOf (correctedCells (length (now (track .entry))) q (now (key .entry)) (now (body .entry)) x xs)) ⌝ }
 {
-    copy_kept(track, marks, new_track, new_marks, q);
+    copy_kept(track, marks, out, out_marks, q);
     let x = sectors::sector_at(track, marks, first, q);
     let a = sectors::address_at(track, marks, first, q);
     let l = track.len();
     let to = span_end(q, first, key.len(), body.len(), x.last, l);
-    put_span(
-        new_track,
-        new_marks,
-        q,
-        to,
-        first,
-        x.flag,
-        a.cylinder,
-        a.head,
-        x.number,
-        key,
-        body,
-    );
-    write_later(track, marks, new_track, new_marks, x.next, to);
+    put_span(out, out_marks, q, to, first, x.flag, a, x.number, key, body);
+    write_later(track, marks, out, out_marks, x.next, to);
 }
 
 // Correct on an accepted track whose sector 0 opens at place `start`: 14, 12, 15, and then the new track is written.
 fn correct_on(
     track: &[u8],
     marks: &[u8],
-    new_track: &mut [u8],
-    new_marks: &mut [u8],
+    out: &mut [u8],
+    out_marks: &mut [u8],
     start: usize,
     s: u8,
     key: &[u8],
     body: &[u8],
 ) -> format::Answer
     requires { ⌜ Readable (now track) (now marks) start ⌝ }
-    requires { ⌜ (length (now «new_track») ≡ length (now track)) × (length (now «new_marks») ≡ length (now track)) ⌝ }
+    requires { ⌜ (length (now out) ≡ length (now track)) × (length (now «out_marks») ≡ length (now track)) ⌝ }
     ensures answer { λ r. ⌜ answerAt (r .number) (r .place) ≡ answerOf (asPair (correctCells gapOne (cells (now (track .entry)) (now (marks .entry))) s (now (key .entry)) (now (body .entry)))) ⌝ }
-    ensures bytes { λ _. ⌜ now («new_track» .exit) ≡ trackAfter (asPair (correctCells gapOne (cells (now (track .entry)) (now (marks .entry))) s (now (key .entry)) (now (body .entry)))) (now («new_track» .entry)) ⌝ }
-    ensures marks { λ _. ⌜ now («new_marks» .exit) ≡ marksAfter (asPair (correctCells gapOne (cells (now (track .entry)) (now (marks .entry))) s (now (key .entry)) (now (body .entry)))) (now («new_marks» .entry)) ⌝ }
+    ensures bytes { λ _. ⌜ now (out .exit) ≡ trackAfter (asPair (correctCells gapOne (cells (now (track .entry)) (now (marks .entry))) s (now (key .entry)) (now (body .entry)))) (now (out .entry)) ⌝ }
+    ensures marks { λ _. ⌜ now («out_marks» .exit) ≡ marksAfter (asPair (correctCells gapOne (cells (now (track .entry)) (now (marks .entry))) s (now (key .entry)) (now (body .entry)))) (now («out_marks» .entry)) ⌝ }
 {
     if !content_right(key, body) {
         return format::wanted_wrong();
@@ -172,7 +158,7 @@ fn correct_on(
     if track.len() - 13 < end {
         return format::room_missing();
     }
-    write_corrected(track, marks, new_track, new_marks, q, first, key, body);
+    write_corrected(track, marks, out, out_marks, q, first, key, body);
     format::done()
 }
 

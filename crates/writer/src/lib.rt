@@ -77,14 +77,14 @@ fn place_of(track: &[u8], marks: &[u8], start: usize, s: u8) -> usize
 }
 
 // Copies the first n bytes and marks.
-fn copy_kept(track: &[u8], marks: &[u8], new_track: &mut [u8], new_marks: &mut [u8], n: usize)
+fn copy_kept(track: &[u8], marks: &[u8], out: &mut [u8], out_marks: &mut [u8], n: usize)
     requires { ⌜ (n ≤ length (now track)) × (n ≤ length (now marks)) ⌝ }
-    requires { ⌜ (n ≤ length (now «new_track»)) × (n ≤ length (now «new_marks»)) ⌝ }
-    ensures bytes { λ _. ⌜ now («new_track» .exit) ≡ laidOver (take n (now (track .entry))) (now («new_track» .entry)) ⌝ }
-    ensures marks { λ _. ⌜ now («new_marks» .exit) ≡ laidOver (take n (now (marks .entry))) (now («new_marks» .entry)) ⌝ }
+    requires { ⌜ (n ≤ length (now out)) × (n ≤ length (now «out_marks»)) ⌝ }
+    ensures bytes { λ _. ⌜ now (out .exit) ≡ laidOver (take n (now (track .entry))) (now (out .entry)) ⌝ }
+    ensures marks { λ _. ⌜ now («out_marks» .exit) ≡ laidOver (take n (now (marks .entry))) (now («out_marks» .entry)) ⌝ }
 {
-    encode::copy_front(track, new_track, n);
-    encode::copy_front(marks, new_marks, n);
+    encode::copy_front(track, out, n);
+    encode::copy_front(marks, out_marks, n);
 }
 
 // Writes a sector from place p on, and the gap behind it up to place `to`.
@@ -95,8 +95,7 @@ fn put_span(
     to: usize,
     first: bool,
     flag: u8,
-    cylinder: u16,
-    head: u16,
+    a: sector::Address,
     s: u8,
     key: &[u8],
     body: &[u8],
@@ -104,16 +103,16 @@ fn put_span(
     requires { ⌜ (length (now key) ≤ 255) × (length (now body) ≤ 65535) ⌝ }
     requires { ⌜ p + sectorSize first (length (now key)) (length (now body)) ≤ to ⌝ }
     requires { ⌜ (to ≤ length (now track)) × (to ≤ length (now marks)) ⌝ }
-    ensures bytes { λ _. ⌜ now (track .exit) ≡ laidAt p (bytesOf (filledSpan (to - p) (sectorFrom first flag cylinder head s (now (key .entry)) (now (body .entry))))) (now (track .entry)) ⌝ }
-    ensures marks { λ _. ⌜ now (marks .exit) ≡ laidAt p (marksOf (filledSpan (to - p) (sectorFrom first flag cylinder head s (now (key .entry)) (now (body .entry))))) (now (marks .entry)) ⌝ }
+    ensures bytes { λ _. ⌜ now (track .exit) ≡ laidAt p (bytesOf (filledSpan (to - p) (sectorFrom first flag (a .cylinder) (a .head) s (now (key .entry)) (now (body .entry))))) (now (track .entry)) ⌝ }
+    ensures marks { λ _. ⌜ now (marks .exit) ≡ laidAt p (marksOf (filledSpan (to - p) (sectorFrom first flag (a .cylinder) (a .head) s (now (key .entry)) (now (body .entry))))) (now (marks .entry)) ⌝ }
 {
     encode::write_sector(
         &mut track[p..],
         &mut marks[p..],
         first,
         flag,
-        cylinder,
-        head,
+        a.cylinder,
+        a.head,
         s,
         key,
         body,

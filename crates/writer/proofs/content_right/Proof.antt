@@ -1,5 +1,4 @@
 -- `content_right` meets its contract.
-use mathlib.Core.Path.{sym}
 use borrow.Author.Tests.{le-leb, lt-leb}
 use lib.ListN.{length}
 use Rattle.format.specs.Blank.{contentRight}

@@ -27,8 +27,8 @@ returns c =
     let pre = c .before .before .before .before .before .before .before .before .before .before .before .before .pre in
     let one = c .before .before .before .before .before .before .copy-front in
     let two = c .before .before .copy-front2 in
-    let first : one .result ≡ true = one .ensures .0 ∙ both-fit (a .n) (length (a .track .now)) (length (a .new-track .now)) (omega (arith, pre)) (omega (arith, pre)) in
-    let second : two .result ≡ true = two .ensures .0 ∙ both-fit (a .n) (length (a .marks .now)) (length (a .new-marks .now)) (omega (arith, pre)) (omega (arith, pre)) in
+    let first : one .result ≡ true = one .ensures .0 ∙ both-fit (a .n) (length (a .track .now)) (length (a .out .now)) (omega (arith, pre)) (omega (arith, pre)) in
+    let second : two .result ≡ true = two .ensures .0 ∙ both-fit (a .n) (length (a .marks .now)) (length (a .out-marks .now)) (omega (arith, pre)) (omega (arith, pre)) in
     (wrote-over (one .result) _ _ _ first (one .ensures .1), wrote-over (two .result) _ _ _ second (two .ensures .1))
 
 pub copy-kept-spec : {M : Type 1} → statement M

@@ -1,5 +1,5 @@
 -- `place_of` meets its contract: the search of all sectors is the search of those from place p on.
-use Prim.Native.Nat.{_-_, _<_}
+use Prim.Native.Nat.{_-_}
 use native.Mathlib.Omega.{arith}
 use lib.ListN.{length}
 use borrow.Author.Needs.{needs}

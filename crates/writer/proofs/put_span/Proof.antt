@@ -1,18 +1,18 @@
 -- `put_span` meets its contract: the sector, and the gap right behind it.
 use mathlib.Core.Path.{_≡_, sym, ap, _∙_}
-use Prim.Native.Nat.{ℕ, _+_, _-_, _≤_}
+use Prim.Native.Nat.{ℕ, _+_, _-_}
 use mathlib.Core.Bool.{true}
 use mathlib.Core.List.{List}
 use borrow.Rule.Slice.PartMut.{putMid}
 use native.Mathlib.Omega.{arith}
-use lib.ListN.{length, replicate}
+use lib.ListN.{length}
 use borrow.Author.Needs.{needs}
 use Rattle.format.specs.Lent.{bytesOf, marksOf}
 use Rattle.format.specs.Sector.{Sector}
 use Rattle.format.specs.Written.{writtenSector}
 use Rattle.format.proofs.Pairs.{length-bytes, length-marks}
-use Rattle.encode.specs.Laid.{laidAt, laidAtIf}
-use Rattle.encode.specs.Room.{sectorFrom, sectorSize}
+use Rattle.encode.specs.Laid.{laidAt}
+use Rattle.encode.specs.Room.{sectorFrom}
 use Rattle.encode.proofs.Laid.{length-laid}
 use Rattle.encode.proofs.Room.{gap-fits}
 use Rattle.encode.proofs.Sectors.{sector-length, sector-fits}
@@ -67,7 +67,7 @@ returns c =
     let a = c .before .before .before .before .before .before .before .before .before .before .before .before .before .before .before .before .before .before .before .args in
     let one = c .before .before .before .before .before .before .before .before .before .before .before .before .write-sector in
     let two = c .before .before .before .before .fill-gap in
-    let S : Sector = sectorFrom (a .first) (a .flag) (a .cylinder) (a .head) (a .s) (a .key .now) (a .body .now) in
+    let S : Sector = sectorFrom (a .first) (a .flag) (a .a .cylinder) (a .a .head) (a .s) (a .key .now) (a .body .now) in
     let n = c .before .before .before .before .before .before .before .sector-size .result in
     let size : n ≡ length (writtenSector S) = c .before .before .before .before .before .before .before .sector-size .ensures ∙ sym (sector-length S) in
     let pre = c .before .before .before .before .before .before .before .before .before .before .before .before .before .before .before .before .before .before .before .pre in

@@ -1,17 +1,17 @@
 -- `add_behind` meets its contract: 15 before anything is written, then the new track.
-use mathlib.Core.Path.{_≡_, refl, sym, ap, ap₂, _∙_}
-use Prim.Native.Nat.{ℕ, suc, _+_, _-_, _%_, _≤_, _<_}
+use mathlib.Core.Path.{_≡_, sym, ap, ap₂, _∙_}
+use Prim.Native.Nat.{ℕ, suc, _+_, _-_, _%_}
 use native.Mathlib.Omega.{arith}
 use mathlib.Core.Bool.{true, false}
 use mathlib.Core.List.{List, [], _∷_, _++_}
-use lib.ListN.{length, take, replicate}
+use lib.ListN.{length, replicate}
 use lib.Dec.{eqb}
-use Rattle.format.specs.Lent.{cells, unmarked}
+use Rattle.format.specs.Lent.{unmarked}
 use Rattle.format.specs.Sector.{Sector}
-use Rattle.format.specs.Written.{gapOne, gapAfter}
-use Rattle.format.specs.Add.{endOf, addedFlag, addedSector}
+use Rattle.format.specs.Written.{gapOne}
+use Rattle.format.specs.Add.{addedFlag, addedSector}
 use Rattle.format.proofs.GrownSpans.{lastOf}
-use Rattle.encode.specs.Room.{sectorFrom, sectorSize}
+use Rattle.encode.specs.Room.{sectorFrom}
 use Rattle.encode.proofs.Cells.{unmarked-bytes}
 use Rattle.sectors.proofs.From.{SectorsFrom}
 use Rattle.writer.specs.After.{filledSpan}
@@ -144,7 +144,7 @@ returns c =
     let y = lastOf (z .x) (z .xs) in
     let f : SectorsFrom t m p (eqb p (a .start)) (lastOf (z .x) (z .xs) ∷ []) = last .ensures (z .x) (z .xs) (z .steps) .0 in
     let x = c .before .before .before .before .before .before .sector-at in
-    after-refused _ _ _ (a .new-track .now) (a .new-marks .now)
+    after-refused _ _ _ (a .out .now) (a .out-marks .now)
     (add-short t m (a .start) r (a .b7) (a .s) (a .key .now) (a .body .now) (c .before .before .before .before .before .before .before .before .before .before .before .before .before .before .pre .1 .0 .0) (c .before .before .before .before .before .before .before .before .before .before .before .before .before .before .pre .1 .0 .1) (c .before .before .before .before .before .before .before .before .before .before .before .before .before .before .pre .0 .absent) (z .x) (z .xs) (z .all) (x .result .end) (x .result .end + c .before .before .before .gap-one .result)
     (last-end t m p (eqb p (a .start)) y f (x .result) (x .ensures)) (ap (λ (n : ℕ). x .result .end + n) (c .before .before .before .gap-one .ensures ∙ last-gap t m p (eqb p (a .start)) y f (x .result) (x .ensures))) (omega (arith, last-inside t m p (eqb p (a .start)) y f (x .result) (x .ensures)))
     (omega (arith, c .before .if1 .taken, c .before .before .sector-size .ensures, readable-left t m (a .start) r .cells-length)))
@@ -219,7 +219,7 @@ returns-2 c =
     let W : ℕ → Sector → List ℕ = λ l n. replicate (to - end) 0xFF ++ filledSpan (l - to) n in
     let same = ap₂ W (sym (u .cells-length)) made in
     let bytes : unmarked t ≡ true = unmarked-bytes t (λ i. omega (arith, c .before .before .before .before .before .before .before .before .before .before .before .before .before .before .before .before .before .before .before .before .before .before .shared-slice-known .given i)) in
-    after-good _ _ _ (a .new-track .now) (a .new-marks .now) (wrote .last .1 .1 .0) (wrote .last .1 .1 .1 .0)
+    after-good _ _ _ (a .out .now) (a .out-marks .now) (wrote .last .1 .1 .0) (wrote .last .1 .1 .1 .0)
     (add-done t m (a .start) r (a .b7) (a .s) (a .key .now) (a .body .now) (c .before .before .before .before .before .before .before .before .before .before .before .before .before .before .before .before .before .before .before .before .before .before .before .pre .1 .0 .0) (c .before .before .before .before .before .before .before .before .before .before .before .before .before .before .before .before .before .before .before .before .before .before .before .pre .1 .0 .1) (c .before .before .before .before .before .before .before .before .before .before .before .before .before .before .before .before .before .before .before .before .before .before .before .pre .0 .absent) (z .x) (z .xs) (z .all) (x .result .end) (x .result .end + c .before .before .before .before .before .before .before .before .before .before .before .before .gap-one .result)
     (last-end t m p (eqb p (a .start)) y f (x .result) (x .ensures)) (ap (λ (n : ℕ). x .result .end + n) (c .before .before .before .before .before .before .before .before .before .before .before .before .gap-one .ensures ∙ last-gap t m p (eqb p (a .start)) y f (x .result) (x .ensures))) (omega (arith, last-inside t m p (eqb p (a .start)) y f (x .result) (x .ensures)))
     (omega (arith, c .before .before .before .before .before .before .before .before .before .before .if1 .left, c .before .before .before .before .before .before .before .before .before .before .before .sector-size .ensures, u .cells-length)))

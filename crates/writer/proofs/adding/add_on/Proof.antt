@@ -1,8 +1,5 @@
 -- `add_on` meets its contract: 14 and 13 before anything is written, then Add behind the last sector.
-use mathlib.Core.Path.{_≡_, sym, _∙_}
-use native.Mathlib.Omega.{arith}
-use mathlib.Core.Bool.{true, false}
-use lib.ListN.{length}
+use mathlib.Core.Path.{sym, _∙_}
 use borrow.Author.Tests.{not-true, not-false}
 use Rattle.writer.proofs.Outcome.{after-refused}
 use Rattle.writer.proofs.Corrected.{readable-steps, readable-left, found-at, found-none}
@@ -20,7 +17,7 @@ returns c =
     let t = a .track .now in
     let m = a .marks .now in
     let r = c .before .before .before .before .before .before .before .before .pre .0 .readable in
-    after-refused _ _ _ (a .new-track .now) (a .new-marks .now) (add-overflow t m (a .start) r (a .b7) (a .s) (a .key .now) (a .body .now) (c .before .if1 .taken)) (c .wanted-wrong .ensures)
+    after-refused _ _ _ (a .out .now) (a .out-marks .now) (add-overflow t m (a .start) r (a .b7) (a .s) (a .key .now) (a .body .now) (c .before .if1 .taken)) (c .wanted-wrong .ensures)
 
 content-right-requires : tie.Need-content-right-requires
 content-right-requires c κs = search needs
@@ -34,7 +31,7 @@ returns-2 c =
     let t = a .track .now in
     let m = a .marks .now in
     let r = c .before .before .before .before .before .before .before .before .before .before .pre .0 .readable in
-    after-refused _ _ _ (a .new-track .now) (a .new-marks .now)
+    after-refused _ _ _ (a .out .now) (a .out-marks .now)
     (add-wanted t m (a .start) r (a .b7) (a .s) (a .key .now) (a .body .now) (c .before .before .before .if1 .left) (sym (c .before .before .content-right .ensures) ∙ not-true _ (c .before .if2 .taken))) (c .wanted-wrong2 .ensures)
 
 place-of-requires : tie.Need-place-of-requires
@@ -56,7 +53,7 @@ returns-3 c =
     let r = c .before .before .before .before .before .before .before .before .before .before .before .before .pre .0 .readable in
     let q = c .before .before .place-of .result in
     let z = found-at t m (a .start) q (a .s) r (c .before .before .place-of .ensures (r .accepted .sectors) (readable-steps t m (a .start) r)) (c .before .if3 .taken) in
-    after-refused _ _ _ (a .new-track .now) (a .new-marks .now)
+    after-refused _ _ _ (a .out .now) (a .out-marks .now)
     (add-repeated t m (a .start) r (a .b7) (a .s) (a .key .now) (a .body .now) (c .before .before .before .before .before .if1 .left) (sym (c .before .before .before .before .content-right .ensures) ∙ not-false _ (c .before .before .before .if2 .left)) (z .sector) (z .later) q (z .split) (z .place-is))
     (c .sector-repeated .ensures)
 

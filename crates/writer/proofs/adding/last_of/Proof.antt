@@ -1,5 +1,5 @@
 -- `last_of` meets its contract: the last of all sectors is the last of those from place p on.
-use Prim.Native.Nat.{_-_, _<_}
+use Prim.Native.Nat.{_-_}
 use native.Mathlib.Omega.{arith}
 use lib.ListN.{length}
 use borrow.Author.Needs.{needs}

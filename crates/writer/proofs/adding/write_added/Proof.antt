@@ -1,6 +1,6 @@
 -- `write_added` meets its contract: the kept front, the gap, the new sector, and the gap to index.
-use mathlib.Core.Path.{_≡_, sym, ap, _∙_}
-use Prim.Native.Nat.{ℕ, _+_, _≤_}
+use mathlib.Core.Path.{_≡_, _∙_}
+use Prim.Native.Nat.{_+_, _≤_}
 use native.Mathlib.Omega.{arith}
 use mathlib.Core.Bool.{true, false}
 use lib.ListN.{length, take}
@@ -50,9 +50,9 @@ returns c =
     let low : a .end ≤ length t = omega (arith, pre .1 .0) in
     let room : a .to + length (writtenSector S) ≤ length t = omega (arith, pre .1 .0, size) in
     let filled : two .result ≡ true = two .ensures .0 ∙ gap-fits (a .end) (a .to) (length T1) (length M1) (pre .1 .0 .0) (omega (arith, pre .1 .0, longT)) (omega (arith, pre .1 .0, longM)) in (
-      added-bytes (a .end) (a .to) (length t) S (pre .1 .0 .0) room (take (a .end) t) (a .new-track .now) T1 (two .last .0) (three .last .0) (length-take-le (a .end) t low)
+      added-bytes (a .end) (a .to) (length t) S (pre .1 .0 .0) room (take (a .end) t) (a .out .now) T1 (two .last .0) (three .last .0) (length-take-le (a .end) t low)
           (one .ensures .0) longT (two .kept .0 ∙ longT) (wrote-at (two .result) _ _ _ _ filled (two .ensures .1 .0)) (three .ensures .0),
-      added-marks (a .end) (a .to) (length t) S (pre .1 .0 .0) room (take (a .end) m) (a .new-marks .now) M1 (two .last .1 .0) (three .last .1 .0)
+      added-marks (a .end) (a .to) (length t) S (pre .1 .0 .0) room (take (a .end) m) (a .out-marks .now) M1 (two .last .1 .0) (three .last .1 .0)
           (length-take-le (a .end) m (omega (arith, low, long))) (one .ensures .1) longM (two .kept .1 .0 ∙ longM) (wrote-at (two .result) _ _ _ _ filled (two .ensures .1 .1)) (three .ensures .1),
     )
 

@@ -1,19 +1,19 @@
 -- `blank` meets its contract: 1, 14 and 15 before anything is written, then home and sector 0.
 use mathlib.Core.Path.{_≡_, sym, ap, _∙_}
-use Prim.Native.Nat.{ℕ, _+_, _-_, _≤_, _<_}
-use mathlib.Core.Bool.{true, false}
+use Prim.Native.Nat.{ℕ, _+_, _-_}
+use mathlib.Core.Bool.{true}
 use mathlib.Core.List.{List, _++_}
 use native.Mathlib.Omega.{arith}
 use lib.ListN.{length}
-use borrow.Author.Tests.{not-true, not-false, eqb-true}
-use Rattle.format.specs.Lent.{lentForWriting, bytesOf, marksOf}
+use borrow.Author.Tests.{not-true, not-false}
+use Rattle.format.specs.Lent.{bytesOf, marksOf}
 use Rattle.format.specs.Address.{Address}
-use Rattle.format.specs.Blank.{namedBy, blankRight, writtenHead, blankSector, blank}
+use Rattle.format.specs.Blank.{namedBy, writtenHead, blankSector}
 use Rattle.sector.specs.As.{asAddress}
-use Rattle.encode.specs.Room.{addressOf, sectorSize}
+use Rattle.encode.specs.Room.{addressOf}
 use Rattle.writer.specs.After.{filledSpan}
 use Rattle.writer.proofs.Outcome.{after-refused, after-good}
-use Rattle.writer.proofs.Filled.{content-bounds, size-most}
+use Rattle.writer.proofs.Filled.{size-most}
 use Rattle.writer.proofs.Blanked.{blank-content, lent-same, blank-lent, blank-wanted, blank-short, blank-done}
 use borrow.Author.Needs.{needs}
 use Rattle.writer.proofs.blanking.blank.Statement.{statement}

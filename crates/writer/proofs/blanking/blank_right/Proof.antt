@@ -3,7 +3,7 @@ use mathlib.Core.Path.{_≡_, sym, ap, _∙_}
 use mathlib.Core.Bool.{true, false}
 use borrow.Author.Needs.{needs}
 use borrow.Author.Tests.{le-leb, lt-leb, not-true, not-false}
-use Rattle.format.specs.Address.{addressInRange, addressRight}
+use Rattle.format.specs.Address.{addressRight}
 use Rattle.format.specs.Blank.{namedBy, blankRight}
 use Rattle.sector.specs.As.{asAddress}
 use Rattle.writer.proofs.blanking.blank_right.Statement.{statement}

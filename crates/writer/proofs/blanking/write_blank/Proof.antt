@@ -1,15 +1,14 @@
 -- `write_blank` meets its contract: home, and sector 0 with the gap to index behind it.
-use mathlib.Core.Path.{_≡_, sym, ap, _∙_}
+use mathlib.Core.Path.{_≡_, _∙_}
 use Prim.Native.Nat.{_+_, _-_, _≤_}
 use mathlib.Core.Bool.{true}
 use native.Mathlib.Omega.{arith}
 use lib.ListN.{length}
-use Rattle.format.specs.Lent.{bytesOf, marksOf}
 use Rattle.format.specs.Sector.{Sector}
 use Rattle.format.specs.Written.{writtenSector}
-use Rattle.format.specs.Blank.{writtenHead, blankSector}
+use Rattle.format.specs.Blank.{blankSector}
 use Rattle.sector.specs.As.{asAddress}
-use Rattle.encode.specs.Room.{addressOf, headSize}
+use Rattle.encode.specs.Room.{headSize}
 use Rattle.encode.proofs.Room.{both-fit}
 use Rattle.encode.proofs.Sectors.{sector-length}
 use Rattle.writer.proofs.Filled.{wrote-over}

@@ -1,8 +1,8 @@
 -- `correct_on` meets its contract: 14, 12 and 15 before anything is written, then the new track.
 use mathlib.Core.Path.{_≡_, sym, ap, _∙_}
-use Prim.Native.Nat.{ℕ, _+_, _-_, _≤_, _<_}
+use Prim.Native.Nat.{ℕ, _+_, _-_, _≤_}
 use native.Mathlib.Omega.{arith}
-use mathlib.Core.Bool.{true, false}
+use mathlib.Core.Bool.{true}
 use mathlib.Core.List.{List, _∷_, _++_}
 use lib.ListN.{length, take}
 use lib.Dec.{eqb}
@@ -10,7 +10,6 @@ use borrow.Author.Needs.{needs}
 use borrow.Author.Tests.{not-true, not-false}
 use Rattle.format.specs.Lent.{cells, unmarked}
 use Rattle.format.specs.Accept.{Placed}
-use Rattle.format.specs.Add.{fromNumber}
 use Rattle.encode.proofs.Cells.{unmarked-bytes}
 use Rattle.sectors.proofs.From.{SectorsFrom}
 use Rattle.writer.specs.Left.{correctedEnd, correctedCells}
@@ -29,7 +28,7 @@ wanted-wrong-requires c κs = search needs
 returns : tie.Need-returns
 returns c =
     let a = c .before .before .before .before .before .before .before .before .before .args in
-    after-refused _ _ _ (a .new-track .now) (a .new-marks .now)
+    after-refused _ _ _ (a .out .now) (a .out-marks .now)
     (correct-wanted (a .track .now) (a .marks .now) (a .start) (c .before .before .before .before .before .before .before .before .before .pre .0) (a .s) (a .key .now) (a .body .now) (sym (c .before .before .content-right .ensures) ∙ not-true _ (c .before .if1 .taken)))
     (c .wanted-wrong .ensures)
 
@@ -46,7 +45,7 @@ returns-2 c =
     let m = a .marks .now in
     let r = c .before .before .before .before .before .before .before .before .before .before .before .pre .0 in
     let u = readable-left t m (a .start) r in
-    after-refused _ _ _ (a .new-track .now) (a .new-marks .now)
+    after-refused _ _ _ (a .out .now) (a .out-marks .now)
     (correct-missing t m (a .start) r (a .s) (a .key .now) (a .body .now) (sym (c .before .before .before .before .content-right .ensures) ∙ not-false _ (c .before .before .before .if1 .left))
     (found-none t m (a .start) (c .before .before .place-of .result) (a .s) r (c .before .before .place-of .ensures (r .accepted .sectors) (readable-steps t m (a .start) r)) (c .before .if2 .taken)))
     (c .sector-missing .ensures)
@@ -78,7 +77,7 @@ returns-3 c =
     let q = c .before .before .before .before .place-of .result in
     let z = found-at t m (a .start) q (a .s) r (c .before .before .before .before .place-of .ensures (r .accepted .sectors) (readable-steps t m (a .start) r)) (c .before .before .before .if2 .left) in
     let end : c .before .before .corrected-end .result ≡ correctedEnd q (a .key .now) (a .body .now) (z .sector) (z .later) = c .before .before .corrected-end .ensures (z .sector) (z .later) (z .steps) in
-    after-refused _ _ _ (a .new-track .now) (a .new-marks .now)
+    after-refused _ _ _ (a .out .now) (a .out-marks .now)
     (correct-short t m (a .start) r (a .s) (a .key .now) (a .body .now) (sym (c .before .before .before .before .before .before .content-right .ensures) ∙ not-false _ (c .before .before .before .before .before .if1 .left))
     (z .sector) (z .later) (z .split) q (z .place-is) (omega (arith, c .before .before .before .if2 .left, u .cells-length)) (omega (arith, c .before .if3 .taken, end, u .cells-length)))
     (c .room-missing .ensures)
@@ -124,7 +123,7 @@ returns-4 c =
     let end : c .before .before .before .before .before .before .before .before .before .corrected-end .result ≡ correctedEnd q (a .key .now) (a .body .now) (z .sector) (z .later) = c .before .before .before .before .before .before .before .before .before .corrected-end .ensures (z .sector) (z .later) (z .steps) in
     let W : ℕ → List ℕ = λ l. correctedCells l q (a .key .now) (a .body .now) (z .sector) (z .later) in
     let bytes : unmarked t ≡ true = unmarked-bytes t (λ i. omega (arith, c .before .before .before .before .before .before .before .before .before .before .before .before .before .before .before .before .before .before .before .shared-slice-known .given i)) in
-    after-good _ _ (take q (cells t m) ++ W (length (cells t m))) (a .new-track .now) (a .new-marks .now) (wrote .last .1 .1 .0) (wrote .last .1 .1 .1 .0)
+    after-good _ _ (take q (cells t m) ++ W (length (cells t m))) (a .out .now) (a .out-marks .now) (wrote .last .1 .1 .0) (wrote .last .1 .1 .1 .0)
     (correct-done t m (a .start) r (a .s) (a .key .now) (a .body .now) (sym (c .before .before .before .before .before .before .before .before .before .before .before .before .before .content-right .ensures) ∙ not-false _ (c .before .before .before .before .before .before .before .before .before .before .before .before .if1 .left))
     (z .sector) (z .later) (z .split) q (z .place-is) (omega (arith, c .before .before .before .before .before .before .before .before .before .before .if2 .left, u .cells-length)) (omega (arith, c .before .before .before .before .before .before .before .before .if3 .left, end, u .cells-length, k .0)))
     (c .done .ensures)

@@ -1,5 +1,5 @@
 -- `end_of_later` meets its contract: the end with all sectors is the end with those from place p on.
-use Prim.Native.Nat.{_-_, _<_}
+use Prim.Native.Nat.{_-_}
 use native.Mathlib.Omega.{arith}
 use lib.ListN.{length}
 use borrow.Author.Needs.{needs}

@@ -1,6 +1,6 @@
 -- `write_corrected` meets its contract: the kept front, the corrected sector, and those behind it.
-use mathlib.Core.Path.{_≡_, sym, ap, _∙_}
-use Prim.Native.Nat.{ℕ, _+_, _≤_}
+use mathlib.Core.Path.{_≡_, _∙_}
+use Prim.Native.Nat.{_≤_}
 use native.Mathlib.Omega.{arith}
 use mathlib.Core.List.{List, _∷_}
 use lib.ListN.{length, take}
@@ -94,12 +94,12 @@ returns c =
     content-room t m (a .q) (a .first) x xs f (s .result) (s .ensures) (a .key .now) (a .body .now) l (to .result) (to .ensures) (pre .1 .0 .1 x xs f) .2 in (
       λ x xs f.
           content-bytes t m (a .q) (a .first) x xs f (s .result) (s .ensures) (a .key .now) (a .body .now) l (to .result) (to .ensures) (pre .1 .0 .1 x xs f)
-          (ad .result) (ad .ensures) (take (a .q) t) (a .new-track .now) (one .last .1 .1 .0) (three .last .1 .1 .0) (omega (arith, low, longT))
+          (ad .result) (ad .ensures) (take (a .q) t) (a .out .now) (one .last .1 .1 .0) (three .last .1 .1 .0) (omega (arith, low, longT))
           (length-take-le (a .q) t low) (one .ensures .0) (two .last .0) (two .ensures .0)
           (three .ensures .0 xs (later-steps t m (a .q) (a .first) x xs f (s .result) (s .ensures)) (after x xs f)),
       λ x xs f.
           content-marks t m (a .q) (a .first) x xs f (s .result) (s .ensures) (a .key .now) (a .body .now) l (to .result) (to .ensures) (pre .1 .0 .1 x xs f)
-          (ad .result) (ad .ensures) (take (a .q) m) (a .new-marks .now) (one .last .1 .1 .1 .0) (three .last .1 .1 .1 .0) (omega (arith, low, longM))
+          (ad .result) (ad .ensures) (take (a .q) m) (a .out-marks .now) (one .last .1 .1 .1 .0) (three .last .1 .1 .1 .0) (omega (arith, low, longM))
           (length-take-le (a .q) m (omega (arith, low, long))) (one .ensures .1) (two .last .1 .0) (two .ensures .1)
           (three .ensures .1 xs (later-steps t m (a .q) (a .first) x xs f (s .result) (s .ensures)) (after x xs f)),
     )

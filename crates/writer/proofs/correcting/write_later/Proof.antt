@@ -1,24 +1,23 @@
 -- `write_later` meets its contract: what is written and what is left to write stay the same track.
-use mathlib.Core.Path.{_≡_, refl, sym, ap, _∙_}
-use Prim.Native.Nat.{ℕ, _+_, _-_, _≤_, _<_}
+use mathlib.Core.Path.{sym, _∙_}
+use Prim.Native.Nat.{_+_, _-_}
 use mathlib.Core.Bool.{false}
-use mathlib.Core.List.{List, _++_}
+use mathlib.Core.List.{List}
 use native.Mathlib.Omega.{arith}
 use lib.ListN.{length, take, drop}
 use borrow.Author.Needs.{needs}
-use Rattle.format.specs.Lent.{bytesOf, marksOf}
 use Rattle.format.specs.Accept.{Placed}
 use Rattle.sectors.proofs.From.{SectorsFrom}
-use Rattle.writer.specs.Left.{RoomFor, laterCells}
-use Rattle.writer.proofs.Later.{Writing, Going, writing-now, cut-is, cut-length, cut-asks, going-start, going-within, going-end, going-lengths, going-parts, going-onward, going-room, going-next}
+use Rattle.writer.specs.Left.{RoomFor}
+use Rattle.writer.proofs.Later.{Writing, writing-now, cut-is, cut-length, cut-asks, going-start, going-within, going-end, going-lengths, going-parts, going-onward, going-room, going-next}
 use Rattle.writer.proofs.correcting.write_later.Statement.{statement}
 use Rattle.writer.proofs.correcting.write_later.Tie as tie
 
 abbrev Inv-loop : tie.InvT-loop
-Inv-loop track marks new-track₀ new-marks₀ p at l p₀ at₀ new-track new-marks p' at' = Writing track marks p at new-track₀ new-marks₀ p' at' new-track new-marks
+Inv-loop track marks out₀ out-marks₀ p at p₀ at₀ out out-marks p' at' = Writing track marks p at out₀ out-marks₀ p' at' out out-marks
 
 abbrev μ-loop : tie.MeasureT-loop
-μ-loop track marks new-track₀ new-marks₀ p at l p₀ at₀ new-track new-marks p' at' = length track - p'
+μ-loop track marks out₀ out-marks₀ p at p₀ at₀ out out-marks p' at' = length track - p'
 
 loop-holds : tie.Need-loop-holds Inv-loop μ-loop
 loop-holds c = let b = c .before .before .before .before .pre .1 in (b .0, b .1, λ F G g. g)
@@ -34,19 +33,19 @@ span-end-requires c κs =
     let a = c .before .before .before .before .before .before .before .before .args in
     let u = c .before .before .before .before .before .before .before .before .pre .0 in
     let o = c .before .before .before .loop in
-    let i = writing-now (a .track .now) (a .marks .now) (a .p) (a .at) (a .new-track .now) (a .new-marks .now) (o .p) (o .at) (o .new-track) (o .new-marks) u (o .inv) in
+    let i = writing-now (a .track .now) (a .marks .now) (a .p) (a .at) (a .out .now) (a .out-marks .now) (o .p) (o .at) (o .out) (o .out-marks) u (o .inv) in
     let whole = u .left .cells-length in
-    let h = going-within (a .track .now) (a .marks .now) (o .p) (o .at) (o .new-track) (o .new-marks) _ _ i whole in
-    (going-lengths (a .track .now) (a .marks .now) (o .p) (o .at) (o .new-track) (o .new-marks) _ _ i whole (c .before .before .loop-test .taken) (c .before .sector-at .result) (c .before .sector-at .ensures), omega (arith, h, u .left .length-most))
+    let h = going-within (a .track .now) (a .marks .now) (o .p) (o .at) (o .out) (o .out-marks) _ _ i whole in
+    (going-lengths (a .track .now) (a .marks .now) (o .p) (o .at) (o .out) (o .out-marks) _ _ i whole (c .before .before .loop-test .taken) (c .before .sector-at .result) (c .before .sector-at .ensures), omega (arith, h, u .left .length-most))
 
 add-k-end : tie.Need-add-k-end Inv-loop μ-loop
 add-k-end c =
     let a = c .before .before .before .before .before .before .before .before .before .before .args in
     let u = c .before .before .before .before .before .before .before .before .before .before .pre .0 in
     let o = c .before .before .before .before .before .loop in
-    let i = writing-now (a .track .now) (a .marks .now) (a .p) (a .at) (a .new-track .now) (a .new-marks .now) (o .p) (o .at) (o .new-track) (o .new-marks) u (o .inv) in
+    let i = writing-now (a .track .now) (a .marks .now) (a .p) (a .at) (a .out .now) (a .out-marks .now) (o .p) (o .at) (o .out) (o .out-marks) u (o .inv) in
     let whole = u .left .cells-length in
-    let h = going-parts (a .track .now) (a .marks .now) (o .p) (o .at) (o .new-track) (o .new-marks) _ _ i whole (c .before .before .before .before .loop-test .taken) (c .before .before .before .sector-at .result) (c .before .before .before .sector-at .ensures) in
+    let h = going-parts (a .track .now) (a .marks .now) (o .p) (o .at) (o .out) (o .out-marks) _ _ i whole (c .before .before .before .before .loop-test .taken) (c .before .before .before .sector-at .result) (c .before .before .before .sector-at .ensures) in
     omega (arith, h, u .left .length-most)
 
 add-d-end : tie.Need-add-d-end Inv-loop μ-loop
@@ -54,9 +53,9 @@ add-d-end c =
     let a = c .before .before .before .before .before .before .before .before .before .before .before .args in
     let u = c .before .before .before .before .before .before .before .before .before .before .before .pre .0 in
     let o = c .before .before .before .before .before .before .loop in
-    let i = writing-now (a .track .now) (a .marks .now) (a .p) (a .at) (a .new-track .now) (a .new-marks .now) (o .p) (o .at) (o .new-track) (o .new-marks) u (o .inv) in
+    let i = writing-now (a .track .now) (a .marks .now) (a .p) (a .at) (a .out .now) (a .out-marks .now) (o .p) (o .at) (o .out) (o .out-marks) u (o .inv) in
     let whole = u .left .cells-length in
-    let h = going-parts (a .track .now) (a .marks .now) (o .p) (o .at) (o .new-track) (o .new-marks) _ _ i whole (c .before .before .before .before .before .loop-test .taken) (c .before .before .before .before .sector-at .result) (c .before .before .before .before .sector-at .ensures) in
+    let h = going-parts (a .track .now) (a .marks .now) (o .p) (o .at) (o .out) (o .out-marks) _ _ i whole (c .before .before .before .before .before .loop-test .taken) (c .before .before .before .before .sector-at .result) (c .before .before .before .before .sector-at .ensures) in
     omega (arith, h, u .left .length-most)
 
 sub-put-span : tie.Need-sub-put-span Inv-loop μ-loop
@@ -64,9 +63,9 @@ sub-put-span c =
     let a = c .before .before .before .before .before .before .before .before .before .before .before .before .before .args in
     let u = c .before .before .before .before .before .before .before .before .before .before .before .before .before .pre .0 in
     let o = c .before .before .before .before .before .before .before .before .loop in
-    let i = writing-now (a .track .now) (a .marks .now) (a .p) (a .at) (a .new-track .now) (a .new-marks .now) (o .p) (o .at) (o .new-track) (o .new-marks) u (o .inv) in
+    let i = writing-now (a .track .now) (a .marks .now) (a .p) (a .at) (a .out .now) (a .out-marks .now) (o .p) (o .at) (o .out) (o .out-marks) u (o .inv) in
     let whole = u .left .cells-length in
-    let h = going-parts (a .track .now) (a .marks .now) (o .p) (o .at) (o .new-track) (o .new-marks) _ _ i whole (c .before .before .before .before .before .before .before .loop-test .taken) (c .before .before .before .before .before .before .sector-at .result) (c .before .before .before .before .before .before .sector-at .ensures) in
+    let h = going-parts (a .track .now) (a .marks .now) (o .p) (o .at) (o .out) (o .out-marks) _ _ i whole (c .before .before .before .before .before .before .before .loop-test .taken) (c .before .before .before .before .before .before .sector-at .result) (c .before .before .before .before .before .before .sector-at .ensures) in
     omega (arith, h)
 
 part-put-span-start : tie.Need-part-put-span-start Inv-loop μ-loop
@@ -74,9 +73,9 @@ part-put-span-start c =
     let a = c .before .before .before .before .before .before .before .before .before .before .before .before .before .args in
     let u = c .before .before .before .before .before .before .before .before .before .before .before .before .before .pre .0 in
     let o = c .before .before .before .before .before .before .before .before .loop in
-    let i = writing-now (a .track .now) (a .marks .now) (a .p) (a .at) (a .new-track .now) (a .new-marks .now) (o .p) (o .at) (o .new-track) (o .new-marks) u (o .inv) in
+    let i = writing-now (a .track .now) (a .marks .now) (a .p) (a .at) (a .out .now) (a .out-marks .now) (o .p) (o .at) (o .out) (o .out-marks) u (o .inv) in
     let whole = u .left .cells-length in
-    let h = going-parts (a .track .now) (a .marks .now) (o .p) (o .at) (o .new-track) (o .new-marks) _ _ i whole (c .before .before .before .before .before .before .before .loop-test .taken) (c .before .before .before .before .before .before .sector-at .result) (c .before .before .before .before .before .before .sector-at .ensures) in
+    let h = going-parts (a .track .now) (a .marks .now) (o .p) (o .at) (o .out) (o .out-marks) _ _ i whole (c .before .before .before .before .before .before .before .loop-test .taken) (c .before .before .before .before .before .before .sector-at .result) (c .before .before .before .before .before .before .sector-at .ensures) in
     omega (arith, h)
 
 part-put-span-end : tie.Need-part-put-span-end Inv-loop μ-loop
@@ -84,9 +83,9 @@ part-put-span-end c =
     let a = c .before .before .before .before .before .before .before .before .before .before .before .before .before .args in
     let u = c .before .before .before .before .before .before .before .before .before .before .before .before .before .pre .0 in
     let o = c .before .before .before .before .before .before .before .before .loop in
-    let i = writing-now (a .track .now) (a .marks .now) (a .p) (a .at) (a .new-track .now) (a .new-marks .now) (o .p) (o .at) (o .new-track) (o .new-marks) u (o .inv) in
+    let i = writing-now (a .track .now) (a .marks .now) (a .p) (a .at) (a .out .now) (a .out-marks .now) (o .p) (o .at) (o .out) (o .out-marks) u (o .inv) in
     let whole = u .left .cells-length in
-    let h = going-parts (a .track .now) (a .marks .now) (o .p) (o .at) (o .new-track) (o .new-marks) _ _ i whole (c .before .before .before .before .before .before .before .loop-test .taken) (c .before .before .before .before .before .before .sector-at .result) (c .before .before .before .before .before .before .sector-at .ensures) in
+    let h = going-parts (a .track .now) (a .marks .now) (o .p) (o .at) (o .out) (o .out-marks) _ _ i whole (c .before .before .before .before .before .before .before .loop-test .taken) (c .before .before .before .before .before .before .sector-at .result) (c .before .before .before .before .before .before .sector-at .ensures) in
     omega (arith, h)
 
 sub-put-span-2 : tie.Need-sub-put-span-2 Inv-loop μ-loop
@@ -94,9 +93,9 @@ sub-put-span-2 c =
     let a = c .before .before .before .before .before .before .before .before .before .before .before .before .before .before .args in
     let u = c .before .before .before .before .before .before .before .before .before .before .before .before .before .before .pre .0 in
     let o = c .before .before .before .before .before .before .before .before .before .loop in
-    let i = writing-now (a .track .now) (a .marks .now) (a .p) (a .at) (a .new-track .now) (a .new-marks .now) (o .p) (o .at) (o .new-track) (o .new-marks) u (o .inv) in
+    let i = writing-now (a .track .now) (a .marks .now) (a .p) (a .at) (a .out .now) (a .out-marks .now) (o .p) (o .at) (o .out) (o .out-marks) u (o .inv) in
     let whole = u .left .cells-length in
-    let h = going-parts (a .track .now) (a .marks .now) (o .p) (o .at) (o .new-track) (o .new-marks) _ _ i whole (c .before .before .before .before .before .before .before .before .loop-test .taken) (c .before .before .before .before .before .before .before .sector-at .result) (c .before .before .before .before .before .before .before .sector-at .ensures) in
+    let h = going-parts (a .track .now) (a .marks .now) (o .p) (o .at) (o .out) (o .out-marks) _ _ i whole (c .before .before .before .before .before .before .before .before .loop-test .taken) (c .before .before .before .before .before .before .before .sector-at .result) (c .before .before .before .before .before .before .before .sector-at .ensures) in
     omega (arith, h)
 
 part-put-span-start-2 : tie.Need-part-put-span-start-2 Inv-loop μ-loop
@@ -104,9 +103,9 @@ part-put-span-start-2 c =
     let a = c .before .before .before .before .before .before .before .before .before .before .before .before .before .before .args in
     let u = c .before .before .before .before .before .before .before .before .before .before .before .before .before .before .pre .0 in
     let o = c .before .before .before .before .before .before .before .before .before .loop in
-    let i = writing-now (a .track .now) (a .marks .now) (a .p) (a .at) (a .new-track .now) (a .new-marks .now) (o .p) (o .at) (o .new-track) (o .new-marks) u (o .inv) in
+    let i = writing-now (a .track .now) (a .marks .now) (a .p) (a .at) (a .out .now) (a .out-marks .now) (o .p) (o .at) (o .out) (o .out-marks) u (o .inv) in
     let whole = u .left .cells-length in
-    let h = going-parts (a .track .now) (a .marks .now) (o .p) (o .at) (o .new-track) (o .new-marks) _ _ i whole (c .before .before .before .before .before .before .before .before .loop-test .taken) (c .before .before .before .before .before .before .before .sector-at .result) (c .before .before .before .before .before .before .before .sector-at .ensures) in
+    let h = going-parts (a .track .now) (a .marks .now) (o .p) (o .at) (o .out) (o .out-marks) _ _ i whole (c .before .before .before .before .before .before .before .before .loop-test .taken) (c .before .before .before .before .before .before .before .sector-at .result) (c .before .before .before .before .before .before .before .sector-at .ensures) in
     omega (arith, h)
 
 part-put-span-end-2 : tie.Need-part-put-span-end-2 Inv-loop μ-loop
@@ -114,9 +113,9 @@ part-put-span-end-2 c =
     let a = c .before .before .before .before .before .before .before .before .before .before .before .before .before .before .args in
     let u = c .before .before .before .before .before .before .before .before .before .before .before .before .before .before .pre .0 in
     let o = c .before .before .before .before .before .before .before .before .before .loop in
-    let i = writing-now (a .track .now) (a .marks .now) (a .p) (a .at) (a .new-track .now) (a .new-marks .now) (o .p) (o .at) (o .new-track) (o .new-marks) u (o .inv) in
+    let i = writing-now (a .track .now) (a .marks .now) (a .p) (a .at) (a .out .now) (a .out-marks .now) (o .p) (o .at) (o .out) (o .out-marks) u (o .inv) in
     let whole = u .left .cells-length in
-    let h = going-parts (a .track .now) (a .marks .now) (o .p) (o .at) (o .new-track) (o .new-marks) _ _ i whole (c .before .before .before .before .before .before .before .before .loop-test .taken) (c .before .before .before .before .before .before .before .sector-at .result) (c .before .before .before .before .before .before .before .sector-at .ensures) in
+    let h = going-parts (a .track .now) (a .marks .now) (o .p) (o .at) (o .out) (o .out-marks) _ _ i whole (c .before .before .before .before .before .before .before .before .loop-test .taken) (c .before .before .before .before .before .before .before .sector-at .result) (c .before .before .before .before .before .before .before .sector-at .ensures) in
     omega (arith, h)
 
 put-span-requires : tie.Need-put-span-requires Inv-loop μ-loop
@@ -124,16 +123,16 @@ put-span-requires c κs =
     let a = c .before .before .before .before .before .before .before .before .before .before .before .before .before .before .before .args in
     let u = c .before .before .before .before .before .before .before .before .before .before .before .before .before .before .before .pre .0 in
     let o = c .before .before .before .before .before .before .before .before .before .before .loop in
-    let i = writing-now (a .track .now) (a .marks .now) (a .p) (a .at) (a .new-track .now) (a .new-marks .now) (o .p) (o .at) (o .new-track) (o .new-marks) u (o .inv) in
+    let i = writing-now (a .track .now) (a .marks .now) (a .p) (a .at) (a .out .now) (a .out-marks .now) (o .p) (o .at) (o .out) (o .out-marks) u (o .inv) in
     let whole = u .left .cells-length in
     let x = c .before .before .before .before .before .before .before .before .sector-at .result in
-    let h = going-parts (a .track .now) (a .marks .now) (o .p) (o .at) (o .new-track) (o .new-marks) _ _ i whole (c .before .before .before .before .before .before .before .before .before .loop-test .taken) (c .before .before .before .before .before .before .before .before .sector-at .result) (c .before .before .before .before .before .before .before .before .sector-at .ensures) in
-    let n = going-lengths (a .track .now) (a .marks .now) (o .p) (o .at) (o .new-track) (o .new-marks) _ _ i whole (c .before .before .before .before .before .before .before .before .before .loop-test .taken) (c .before .before .before .before .before .before .before .before .sector-at .result) (c .before .before .before .before .before .before .before .before .sector-at .ensures) in
-    let r = going-room (a .track .now) (a .marks .now) (o .p) (o .at) (o .new-track) (o .new-marks) _ _ i whole (c .before .before .before .before .before .before .before .before .before .loop-test .taken) (c .before .before .before .before .before .before .before .before .sector-at .result) (c .before .before .before .before .before .before .before .before .sector-at .ensures) (c .before .before .before .before .before .before .span-end .result) (c .before .before .before .before .before .before .span-end .ensures) in
+    let h = going-parts (a .track .now) (a .marks .now) (o .p) (o .at) (o .out) (o .out-marks) _ _ i whole (c .before .before .before .before .before .before .before .before .before .loop-test .taken) (c .before .before .before .before .before .before .before .before .sector-at .result) (c .before .before .before .before .before .before .before .before .sector-at .ensures) in
+    let n = going-lengths (a .track .now) (a .marks .now) (o .p) (o .at) (o .out) (o .out-marks) _ _ i whole (c .before .before .before .before .before .before .before .before .before .loop-test .taken) (c .before .before .before .before .before .before .before .before .sector-at .result) (c .before .before .before .before .before .before .before .before .sector-at .ensures) in
+    let r = going-room (a .track .now) (a .marks .now) (o .p) (o .at) (o .out) (o .out-marks) _ _ i whole (c .before .before .before .before .before .before .before .before .before .loop-test .taken) (c .before .before .before .before .before .before .before .before .sector-at .result) (c .before .before .before .before .before .before .before .before .sector-at .ensures) (c .before .before .before .before .before .before .span-end .result) (c .before .before .before .before .before .before .span-end .ensures) in
     cut-asks false (o .at) (c .before .before .before .before .before .before .span-end .result) (x .«key_length») (x .«data_length») (length (a .track .now))
     (take (x .«key_place» + x .«key_length» - x .«key_place») (drop (x .«key_place») (a .track .now)))
     (take (x .«data_place» + x .«data_length» - x .«data_place») (drop (x .«data_place») (a .track .now)))
-    (o .new-track) (o .new-marks)
+    (o .out) (o .out-marks)
     (cut-length (x .«key_place») (x .«key_length») (a .track .now) (h .0))
     (cut-length (x .«data_place») (x .«data_length») (a .track .now) (h .1))
     n r (o .inv .0) (o .inv .1)
@@ -143,9 +142,9 @@ loop-less c =
     let a = c .before .before .before .before .before .before .before .before .before .before .before .before .before .before .before .before .before .before .before .before .args in
     let u = c .before .before .before .before .before .before .before .before .before .before .before .before .before .before .before .before .before .before .before .before .pre .0 in
     let o = c .before .before .before .before .before .before .before .before .before .before .before .before .before .before .before .loop in
-    let i = writing-now (a .track .now) (a .marks .now) (a .p) (a .at) (a .new-track .now) (a .new-marks .now) (o .p) (o .at) (o .new-track) (o .new-marks) u (o .inv) in
+    let i = writing-now (a .track .now) (a .marks .now) (a .p) (a .at) (a .out .now) (a .out-marks .now) (o .p) (o .at) (o .out) (o .out-marks) u (o .inv) in
     let whole = u .left .cells-length in
-    let h = going-onward (a .track .now) (a .marks .now) (o .p) (o .at) (o .new-track) (o .new-marks) _ _ i whole (c .before .before .before .before .before .before .before .before .before .before .before .before .before .before .loop-test .taken) (c .before .before .before .before .before .before .before .before .before .before .before .before .before .sector-at .result) (c .before .before .before .before .before .before .before .before .before .before .before .before .before .sector-at .ensures) in
+    let h = going-onward (a .track .now) (a .marks .now) (o .p) (o .at) (o .out) (o .out-marks) _ _ i whole (c .before .before .before .before .before .before .before .before .before .before .before .before .before .before .loop-test .taken) (c .before .before .before .before .before .before .before .before .before .before .before .before .before .sector-at .result) (c .before .before .before .before .before .before .before .before .before .before .before .before .before .sector-at .ensures) in
     omega (arith, h)
 
 loop-again : tie.Need-loop-again Inv-loop μ-loop
@@ -159,7 +158,7 @@ loop-again c =
       w .kept .0 ∙ o .inv .0,
       w .kept .1 .0 ∙ o .inv .1,
       λ F G g.
-          going-next t (a .marks .now) (o .p) (o .at) (o .new-track) (o .new-marks) F G (o .inv .2 F G g) (u .left .cells-length) (c .before .before .before .before .before .before .before .before .before .before .before .before .before .before .loop-test .taken) x (c .before .before .before .before .before .before .before .before .before .before .before .before .before .sector-at .ensures)
+          going-next t (a .marks .now) (o .p) (o .at) (o .out) (o .out-marks) F G (o .inv .2 F G g) (u .left .cells-length) (c .before .before .before .before .before .before .before .before .before .before .before .before .before .before .loop-test .taken) x (c .before .before .before .before .before .before .before .before .before .before .before .before .before .sector-at .ensures)
           (c .before .before .before .before .before .before .before .before .before .before .before .span-end .result) (c .before .before .before .before .before .before .before .before .before .before .before .span-end .ensures) (c .before .before .before .before .before .before .before .before .before .before .before .before .address-at .result) _ _ (w .last .0) (w .last .1 .0) (c .before .before .before .before .before .before .before .before .before .before .before .before .address-at .ensures)
           (cut-is (x .«key_place») (x .«key_length») t) (cut-is (x .«data_place») (x .«data_length») t) (o .inv .0) (o .inv .1) (w .ensures .0) (w .ensures .1),
     )
@@ -177,8 +176,8 @@ returns c =
     let o = c .before .loop in
     let done : (xs : List Placed) (s : SectorsFrom (a .track .now) (a .marks .now) (a .p) false xs) (r : RoomFor (length (a .track .now)) (a .at) xs) → _ =
     λ xs s r.
-    let i = o .inv .2 _ _ (going-start (a .track .now) (a .marks .now) (a .p) (a .at) (a .new-track .now) (a .new-marks .now) xs s r) in
-    going-end (a .track .now) (a .marks .now) (o .p) (o .at) (o .new-track) (o .new-marks) _ _ i (u .left .cells-length) (c .loop-test .left) (o .inv .0) (o .inv .1) in
+    let i = o .inv .2 _ _ (going-start (a .track .now) (a .marks .now) (a .p) (a .at) (a .out .now) (a .out-marks .now) xs s r) in
+    going-end (a .track .now) (a .marks .now) (o .p) (o .at) (o .out) (o .out-marks) _ _ i (u .left .cells-length) (c .loop-test .left) (o .inv .0) (o .inv .1) in
     (λ xs s r. done xs s r .0, λ xs s r. done xs s r .1)
 
 pub write-later-spec : {M : Type 1} → statement M
