@@ -4,6 +4,7 @@ mod common;
 
 use common::Tally;
 use reference::generate::{damaged, sound, Rng};
+use reference::{find, Part};
 use std::io::{ErrorKind, Write};
 use std::path::{Path, PathBuf};
 use std::process::{ChildStdin, Command, Stdio};
@@ -114,10 +115,34 @@ fn walked(input: &[u8]) -> (u8, String) {
     }
 }
 
+/// Bytes in hexadecimal, or `-` where there are none.
+fn hexadecimal(bytes: &[u8]) -> String {
+    match bytes.is_empty() {
+        true => "-".to_string(),
+        false => bytes.iter().map(|byte| format!("{byte:02x}")).collect(),
+    }
+}
+
+/// What trackdump prints by the reference: S, key and data of each S that Find hands something out of.
+fn dumped(input: &[u8]) -> (u8, String) {
+    let (track, marks) = input.split_at(input.len() / 2);
+    if reference::accept(track, marks).number == 1 {
+        return (1, "refused 1\n".to_string());
+    }
+    let mut lines = String::new();
+    for s in 0..=255 {
+        let [key, data] = [Part::Key, Part::Data].map(|part| &track[find(track, marks, s, part).1]);
+        if !key.is_empty() || !data.is_empty() {
+            lines += &format!("{s} {} {}\n", hexadecimal(key), hexadecimal(data));
+        }
+    }
+    (0, lines)
+}
+
 /// Runs a program on the inputs of the seeds and compares what it prints with what is expected.
-fn compare(name: &'static str, numbers: &[u8], expected: fn(&[u8]) -> (u8, String)) {
+fn compare(name: &'static str, runs: u64, numbers: &[u8], expected: fn(&[u8]) -> (u8, String)) {
     let program = program(name);
-    let mut tally = Tally::new(name, 1_600);
+    let mut tally = Tally::new(name, runs);
     for seed in tally.seeds() {
         let mut rng = Rng::new(seed ^ 0x7AC1);
         let input = input_of(seed, &mut rng);
@@ -138,16 +163,18 @@ fn listed(input: &[u8]) -> (u8, String) {
 
 #[test]
 fn tracklist_as_the_reference() {
-    compare(
-        "tracklist",
-        &[0, 1, 2, 3, 4, 5, 6, 7, 8, 9, 10, 11, 13],
-        listed,
-    );
+    let numbers = [0, 1, 2, 3, 4, 5, 6, 7, 8, 9, 10, 11, 13];
+    compare("tracklist", 1_600, &numbers, listed);
+}
+
+#[test]
+fn trackdump_as_the_reference() {
+    compare("trackdump", 400, &[0, 1], dumped);
 }
 
 #[test]
 fn trackwalk_as_the_reference() {
-    compare("trackwalk", &[1, 12], walked);
+    compare("trackwalk", 1_600, &[1, 12], walked);
 }
 
 /// The sample is listed as documented.
