@@ -12,7 +12,6 @@ use Rattle.crc.proofs.Remainder.{remainder-lt}
 
 -- The check is the remainder with 1 added over GF(2) to each of its 16 digits.
 pub check-complement : (bs : List ℕ) → checkOf bs ≡ bitXor (remainder 0 (coefficients bs)) 65535
-unfolding checkOf
 check-complement bs = go (remainder 0 (coefficients bs)) (remainder-lt 0 (coefficients bs) (omega arith) (coefficients-digits bs))
   where
     go : (r : ℕ) → r < 65536 → 65535 - r ≡ bitXor r 65535
@@ -20,7 +19,6 @@ check-complement bs = go (remainder 0 (coefficients bs)) (remainder-lt 0 (coeffi
 
 -- The check fits 16 bits.
 pub check-lt : (bs : List ℕ) → checkOf bs < 65536
-unfolding checkOf
 check-lt bs = omega arith
 
 -- The two stored bytes are bytes.

@@ -55,7 +55,7 @@ halves-lt bs a =
 
 -- The check of bytes, of any number of them, is stored as the complement of the high half and the complement of the low half.
 pub check-halves : (bs : List ℕ) → AllBytes bs → checkBytes bs ≡ (255 - highHalf bs) ∷ (255 - lowHalf bs) ∷ []
-unfolding checkBytes checkOf
+unfolding checkBytes
 check-halves bs a =
     ap (λ (r : ℕ). (65535 - r) / 256 ∷ (65535 - r) % 256 ∷ []) (remainder-halves bs a)
     ∙ ap₂ (λ (u v : ℕ). u ∷ v ∷ []) (high (highHalf bs) (lowHalf bs) (k .0) (k .1)) (low (highHalf bs) (lowHalf bs) (k .0) (k .1))

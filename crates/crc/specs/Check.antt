@@ -34,7 +34,7 @@ remainder r [] = r
 remainder r (c ∷ cs) = remainder (bringDown r c) cs
 
 -- The check as a number of 16 bits: the remainder with every bit complemented.
-unfoldable pub checkOf : List ℕ → ℕ
+abbrev pub checkOf : List ℕ → ℕ
 checkOf bs = 65535 - remainder 0 (coefficients bs)
 
 -- The check as it is stored: two bytes, the high one first.

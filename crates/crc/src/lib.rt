@@ -1,10 +1,10 @@
 // The check of information bytes, and the test of a stored check.
 ghost use mathlib.Core.Path.{_≡_};
-ghost use Rattle.crc.specs.Check.{checkOf, agrees};
+ghost use Rattle.crc.specs.Check.{coefficients, remainder, checkOf, agrees};
 
-// The check of the bytes: with each byte the two halves change places, and the byte is added to the one that becomes low.
-pub fn check_of(bytes: &[u8]) -> u16
-    ensures { λ r. ⌜ r ≡ checkOf (now (bytes .entry)) ⌝ }
+// The remainder of the bytes: with each byte the two halves change places, and the byte is added to the one that becomes low.
+fn remainder_of(bytes: &[u8]) -> u16
+    ensures { λ r. ⌜ r ≡ remainder 0 (coefficients (now (bytes .entry))) ⌝ }
 {
     let mut high: u8 = 0;
     let mut low: u8 = 0;
@@ -15,7 +15,14 @@ pub fn check_of(bytes: &[u8]) -> u16
         low = turned;
         i += 1;
     }
-    65535 - (high as u16 * 256 + low as u16)
+    high as u16 * 256 + low as u16
+}
+
+// The check of the bytes: the remainder with every bit complemented.
+pub fn check_of(bytes: &[u8]) -> u16
+    ensures { λ r. ⌜ r ≡ checkOf (now (bytes .entry)) ⌝ }
+{
+    65535 - remainder_of(bytes)
 }
 
 // Whether the check of the bytes is stored as the byte high and then the byte low.

@@ -6,7 +6,7 @@ use mathlib.Core.Bool.{Bool, true, false, _&&_}
 use mathlib.Core.List.{List, [], _∷_}
 use lib.Dec.{eqb}
 use borrow.Author.Tests.{eqb-true}
-use Rattle.crc.specs.Check.{digits, coefficients, divisor, bringDown, remainder, checkOf, checkBytes}
+use Rattle.crc.specs.Check.{digits, coefficients, divisor, bringDown, remainder, checkBytes}
 use Rattle.format.specs.Lent.{lengthRight, marksLegal, lentForWriting, lentForReading, cells, bytesOf, marksOf}
 use Rattle.format.specs.Opening.{opens, closing, closedAfter}
 use Rattle.format.specs.Flag.{homeFlagRight, sequenceRight, countFlagRight, namesItself}
@@ -45,7 +45,7 @@ each-holds (x ∷ cs) e =
     (same-equal (x .computed) (x .stated) (h .0), each-holds cs (h .1))
 
 tables-pass : (allHold starred && allHold further) ≡ true
-unfolding digits coefficients divisor bringDown remainder checkOf checkBytes
+unfolding digits coefficients divisor bringDown remainder checkBytes
     lengthRight marksLegal lentForWriting lentForReading cells bytesOf marksOf opens closing closedAfter
     homeFlagRight sequenceRight countFlagRight namesItself addressIn addressBytes addressInRange sameAddress addressRight
     homeFrom findHome homeBytes homeAt homeFieldsRight judgeHome countFits countClosed countAddressRight countFieldsRight

@@ -1,14 +1,14 @@
--- `check_of` meets its contract: at each turn the two halves, with the bytes that are left, have the remainder of the whole.
+-- `remainder_of` meets its contract: at each turn the two halves, with the bytes that are left, have the remainder of the whole.
 use mathlib.Core.Path.{_≡_, sym, ap, _∙_}
 use Prim.Native.Nat.{ℕ, _+_, _-_, _*_, _≤_, _<_}
 use native.Mathlib.Omega.{arith}
 use borrow.Author.Needs.{needs}
 use lib.ListN.{length, getD, drop}
 use lib.Bits.{xor-lt}
-use Rattle.crc.specs.Check.{checkOf, remainder, coefficients}
+use Rattle.crc.specs.Check.{remainder, coefficients}
 use Rattle.crc.proofs.Turn.{bring-at, bring-end}
-use Rattle.crc.proofs.check_of.Statement.{statement}
-use Rattle.crc.proofs.check_of.Tie as tie
+use Rattle.crc.proofs.remainder_of.Statement.{statement}
+use Rattle.crc.proofs.remainder_of.Tie as tie
 
 -- What holds at each turn: the halves are bytes, and the bytes from place i on, brought down behind them, leave the remainder of the whole.
 abbrev Inv-loop : tie.InvT-loop
@@ -54,17 +54,13 @@ cast-result-2 c = omega arith
 add-result : tie.Need-add-result Inv-loop μ-loop
 add-result c = omega arith
 
-sub-result : tie.Need-sub-result Inv-loop μ-loop
-sub-result c = omega arith
-
 returns : tie.Need-returns Inv-loop μ-loop
-unfolding checkOf
 returns c =
     let s = c .before .before .args .bytes .now in
     let l = c .before .loop in
-    ap (λ (r : ℕ). 65535 - r) (sym (bring-end s (l .i) (l .high * 256 + l .low) (omega arith)) ∙ l .inv .3)
+    sym (bring-end s (l .i) (l .high * 256 + l .low) (omega arith)) ∙ l .inv .3
 
-pub check-of-spec : {M : Type 1} → statement M
-check-of-spec =
+pub remainder-of-spec : {M : Type 1} → statement M
+remainder-of-spec =
     tie.close
-    (tie.spec Inv-loop μ-loop loop-holds shared-slice-read-turned add-i loop-less loop-again cast-result mul-result cast-result-2 add-result sub-result returns)
+    (tie.spec Inv-loop μ-loop loop-holds shared-slice-read-turned add-i loop-less loop-again cast-result mul-result cast-result-2 add-result returns)
