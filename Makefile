@@ -63,9 +63,12 @@ soak: lib
 bench: lib
 	cd host && $(CARGO) run --release --quiet -p bench
 
-# The sample made anew by the reference.
+# The samples made anew by the reference; the gate runs the programs on the same bytes.
 sample:
 	cd host && $(CARGO) run --quiet -p reference --example sample > ../samples/case5.bin
+	cd host && $(CARGO) run --quiet -p reference --example sample_pair -- ../samples
+	for c in tracklist trackwalk trackdump; do cp samples/case5.bin crates/$$c/stdin; done
+	cp samples/defective.bin samples/alternative.bin crates/trackpair/data/
 
 fmt:
 	rt fmt

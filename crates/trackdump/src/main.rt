@@ -1,27 +1,18 @@
 // Copies the records of a track out, sound or damaged: reads L track bytes and then L marks from standard input, and writes a line for each S whose key or
 // data Find hands out: S, the key and the data in hexadecimal, `-` for an empty or refused one.
 use libc::STDIN_FILENO;
-use libc::STDOUT_FILENO;
+use printing::field;
+use printing::hexadecimal;
+use printing::text;
 use reader::Wanted;
-
-// Writes bytes in hexadecimal, or `-` where there are none.
-fn write_bytes(bytes: &[u8]) {
-    if bytes.len() == 0 {
-        io::write_all(STDOUT_FILENO, b"-");
-    }
-    for i in 0..bytes.len() {
-        io::print_hex(STDOUT_FILENO, bytes[i] as u64, 2);
-    }
-}
 
 // Writes the line of a record.
 fn write_record(s: u8, key: &[u8], body: &[u8]) {
-    io::print_decimal(STDOUT_FILENO, s as u64);
-    io::write_all(STDOUT_FILENO, b" ");
-    write_bytes(key);
-    io::write_all(STDOUT_FILENO, b" ");
-    write_bytes(body);
-    io::write_all(STDOUT_FILENO, b"\n");
+    field(s as u64);
+    hexadecimal(key);
+    text(b" ");
+    hexadecimal(body);
+    text(b"\n");
 }
 
 // Writes the record of sector S, if Find hands out its key or its data.
@@ -40,7 +31,7 @@ fn write_found(track: &[u8], marks: &[u8], number: usize) {
 // Writes the records of all S, or that the input is refused.
 fn dump(track: &[u8], marks: &[u8]) {
     if !search::lent_for_reading(track, marks) {
-        io::write_all(STDOUT_FILENO, b"refused 1\n");
+        text(b"refused 1\n");
         return;
     }
     for s in 0..256 {

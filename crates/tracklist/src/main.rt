@@ -1,41 +1,30 @@
 // Lists a track: reads L track bytes and then L marks from standard input, and writes the track's address and flag and a line for each sector.
 use libc::STDIN_FILENO;
-use libc::STDOUT_FILENO;
+use printing::field;
+use printing::last;
 use sector::Home;
-
-// Writes a number and a space.
-fn write_field(n: u64) {
-    io::print_decimal(STDOUT_FILENO, n);
-    io::write_all(STDOUT_FILENO, b" ");
-}
-
-// Writes a number and ends the line.
-fn write_last(n: u64) {
-    io::print_decimal(STDOUT_FILENO, n);
-    io::write_all(STDOUT_FILENO, b"\n");
-}
 
 // Writes that the input is refused, with the answer's number.
 fn write_refused(number: u8) {
-    io::write_all(STDOUT_FILENO, b"refused ");
-    write_last(number as u64);
+    printing::text(b"refused ");
+    last(number as u64);
 }
 
 // Writes cylinder, head and flag of the track.
 fn write_home(h: Home) {
     let address = h.address;
-    write_field(address.cylinder as u64);
-    write_field(address.head as u64);
-    write_last(h.flag as u64);
+    field(address.cylinder as u64);
+    field(address.head as u64);
+    last(h.flag as u64);
 }
 
 // Writes S, flag, KL, DL and the data's place of a sector.
 fn write_sector(x: listing::Sector) {
-    write_field(x.number as u64);
-    write_field(x.flag as u64);
-    write_field(x.key_length as u64);
-    write_field(x.data_length as u64);
-    write_last(x.data_place as u64);
+    field(x.number as u64);
+    field(x.flag as u64);
+    field(x.key_length as u64);
+    field(x.data_length as u64);
+    last(x.data_place as u64);
 }
 
 // Writes a line for each sector of the track, from left to right.
@@ -61,12 +50,8 @@ fn list(track: &[u8], marks: &[u8]) {
     }
 }
 
-// The two halves of the input are the track and its marks; an odd length is refused.
+// The two halves of the input are the track and its marks; those of an odd length differ in length, which is refused.
 fn list_halves(all: &[u8]) {
-    if all.len() % 2 == 1 {
-        write_refused(1);
-        return;
-    }
     let half = all.len() / 2;
     list(&all[0..half], &all[half..]);
 }

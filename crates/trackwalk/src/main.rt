@@ -1,33 +1,22 @@
 // Walks over a damaged track: reads L track bytes and then L marks from standard input, and writes place, flag, S, KL and DL of each
 // count that can be read, from left to right, and then the number of the answer that ends the walk.
 use libc::STDIN_FILENO;
-use libc::STDOUT_FILENO;
-
-// Writes a number and a space.
-fn write_field(n: u64) {
-    io::print_decimal(STDOUT_FILENO, n);
-    io::write_all(STDOUT_FILENO, b" ");
-}
-
-// Writes a number and ends the line.
-fn write_last(n: u64) {
-    io::print_decimal(STDOUT_FILENO, n);
-    io::write_all(STDOUT_FILENO, b"\n");
-}
+use printing::field;
+use printing::last;
 
 // Writes the answer that ends the walk.
 fn write_ended(number: u8) {
-    io::write_all(STDOUT_FILENO, b"ended ");
-    write_last(number as u64);
+    printing::text(b"ended ");
+    last(number as u64);
 }
 
 // Writes a candidate.
 fn write_visited(v: reader::Visited) {
-    write_field(v.place as u64);
-    write_field(v.flag as u64);
-    write_field(v.number as u64);
-    write_field(v.key_length as u64);
-    write_last(v.data_length as u64);
+    field(v.place as u64);
+    field(v.flag as u64);
+    field(v.number as u64);
+    field(v.key_length as u64);
+    last(v.data_length as u64);
 }
 
 // Writes the step n of a walk from the start; whether it came to a candidate.
@@ -53,12 +42,8 @@ fn walk<'a>(track: &'a [u8], marks: &'a [u8]) {
     }
 }
 
-// The two halves of the input are the track and its marks; an odd length is refused.
+// The two halves of the input are the track and its marks; those of an odd length differ in length, which is refused.
 fn walk_halves(all: &[u8]) {
-    if all.len() % 2 == 1 {
-        write_ended(1);
-        return;
-    }
     let half = all.len() / 2;
     walk(&all[0..half], &all[half..]);
 }

@@ -3,8 +3,8 @@
 mod common;
 
 use common::Tally;
-use reference::generate::{damaged, sound, Rng};
-use reference::{find, Part};
+use reference::generate::{damaged, pair, sound, Rng};
+use reference::{find, pair_find, Part};
 use std::io::{ErrorKind, Write};
 use std::path::{Path, PathBuf};
 use std::process::{ChildStdin, Command, Stdio};
@@ -175,6 +175,97 @@ fn trackdump_as_the_reference() {
 #[test]
 fn trackwalk_as_the_reference() {
     compare("trackwalk", 1_600, &[1, 12], walked);
+}
+
+/// The two files of a seed for trackpair: a generated pair, one with a damaged second track, or inputs of any kind.
+fn two_inputs(seed: u64, rng: &mut Rng) -> [Vec<u8>; 2] {
+    let pair = pair(seed);
+    match seed % 4 {
+        0 | 1 => [joined(pair.first), joined(pair.second)],
+        2 => [joined(pair.first), joined(damaged(seed))],
+        _ => [input_of(seed / 4, rng), input_of(seed / 4 + 1, rng)],
+    }
+}
+
+/// The S of some candidate of the inputs, or any S.
+fn some_number(rng: &mut Rng, inputs: &[Vec<u8>; 2]) -> u8 {
+    let mut numbers = vec![rng.byte()];
+    for input in inputs {
+        let (track, marks) = input.split_at(input.len() / 2);
+        let mut walk = reference::Walk::new(track, marks);
+        while let Ok(candidate) = walk.step() {
+            numbers.push(candidate.s);
+        }
+    }
+    rng.pick(&numbers)
+}
+
+/// What trackpair prints by the reference, with the data's answer: a line for the key and one for the data.
+fn paired(inputs: &[Vec<u8>; 2], s: u8) -> (u8, String) {
+    let [first, second] = inputs
+        .each_ref()
+        .map(|input| input.split_at(input.len() / 2));
+    let mut lines = String::new();
+    let mut number = 0;
+    for (name, part) in [("key", Part::Key), ("data", Part::Data)] {
+        let (done, which, range) = pair_find(first, second, s, part);
+        let track = if which == 0 { first.0 } else { second.0 };
+        let (n, p, bytes) = (done.number, done.place, hexadecimal(&track[range]));
+        lines += &format!("{name} {} {n} {p} {bytes}\n", which + 1);
+        number = n;
+    }
+    (number, lines)
+}
+
+/// What trackpair writes to standard output and to standard error.
+fn run_trackpair(arguments: &[String]) -> [String; 2] {
+    let output = Command::new(program("trackpair"))
+        .args(arguments)
+        .output()
+        .expect("the program ends");
+    assert!(output.status.code().is_some(), "ended by {}", output.status);
+    [output.stdout, output.stderr].map(|text| String::from_utf8_lossy(&text).to_string())
+}
+
+#[test]
+fn trackpair_as_the_reference() {
+    let mut tally = Tally::new("trackpair", 1_600);
+    let folder = Path::new(env!("CARGO_TARGET_TMPDIR"));
+    let files = ["first", "second"].map(|name| folder.join(format!("trackpair-{name}.bin")));
+    for seed in tally.seeds() {
+        let mut rng = Rng::new(seed ^ 0x2A17);
+        let inputs = two_inputs(seed, &mut rng);
+        for (file, input) in files.iter().zip(&inputs) {
+            std::fs::write(file, input).expect("the folder takes a file");
+        }
+        let s = some_number(&mut rng, &inputs);
+        let [one, two] = files.each_ref().map(|file| file.display().to_string());
+        let (number, lines) = paired(&inputs, s);
+        tally.count(number);
+        let printed = run_trackpair(&[one, two, s.to_string()]);
+        assert_eq!(printed, [lines, String::new()], "seed {seed}, S {s}");
+    }
+    tally.finish(1_600, &[0, 1, 2, 3, 4, 5, 6, 7, 8, 9, 10, 11, 12, 13, 16]);
+}
+
+/// A wrong call prints nothing but what is wrong with it.
+#[test]
+fn trackpair_tells_what_is_wrong() {
+    let sample = |name: &str| repository().join("samples").join(name);
+    let sample = |name: &str| sample(name).display().to_string();
+    let files = [sample("defective.bin"), sample("alternative.bin")];
+    for s in ["256", "1000", "", "x", "1x", "-1"] {
+        let [printed, told] = run_trackpair(&[&files[..], &[s.to_string()]].concat());
+        assert_eq!(printed, "", "{s}");
+        assert!(told.starts_with("usage: trackpair"), "{s}: {told}");
+    }
+    let missing = sample("no such file");
+    for names in [[&missing, &files[1]], [&files[0], &missing]] {
+        let [one, two] = names.map(String::clone);
+        let [printed, told] = run_trackpair(&[one, two, "1".to_string()]);
+        assert_eq!(printed, "");
+        assert!(told.contains("no such file: "), "{told}");
+    }
 }
 
 /// The sample is listed as documented.
