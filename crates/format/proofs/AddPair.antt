@@ -1,38 +1,20 @@
 -- Add between two pairs: what it writes is accepted, and bytes and marks up to the end of the old last block are copied.
 use mathlib.Core.Path.{_≡_, sym, ap, ap₂, _∙_}
-use Prim.Native.Nat.{ℕ, _/_, _%_, _≤_, _<_}
+use Prim.Native.Nat.{ℕ, _≤_, _<_}
 use mathlib.Core.Bool.{true}
-use mathlib.Core.List.{List, [], _∷_, _++_, map}
+use mathlib.Core.List.{List, [], _∷_, _++_}
 use lib.ListN.{length, take}
-use lib.Dec.{eqb}
-use borrow.Author.Tests.{eqb-true}
 use Rattle.format.specs.Answer.{lentWrong}
 use Rattle.format.specs.Judged.{good}
-use Rattle.format.specs.Lent.{lengthRight, marksLegal, lentForWriting, lentForReading, cells, bytesOf, marksOf, unmarked}
+use Rattle.format.specs.Lent.{lengthRight, cells, bytesOf, marksOf, unmarked}
 use Rattle.format.specs.Accept.{Accepted, accept}
 use Rattle.format.specs.Written.{Pair, asPair}
 use Rattle.format.specs.Add.{bothLent, addCells, add}
 use Rattle.format.specs.Correct.{sectorsOf}
-use Rattle.format.proofs.Judged.{and-both, require-good}
-use Rattle.format.proofs.Lists.{take-map}
-use Rattle.format.proofs.Pairs.{bytes-cells, marks-cells, length-bytes, length-marks, accept-pair, accepted-pair, lent-length, written-pair}
+use Rattle.format.proofs.Judged.{require-good}
+use Rattle.format.proofs.Pairs.{bytes-cells, marks-cells, length-bytes, length-marks, bytes-copied, marks-copied, lent-marks, accept-pair, accepted-pair, lent-length, written-pair}
 use Rattle.format.proofs.NewSector.{newSector, lastEnd}
 use Rattle.format.proofs.AddAccepted.{add-accepted}
-
-lent-marks : (t m : List ℕ) → lentForReading t m ≡ true → length m ≡ length t
-unfolding lentForReading lentForWriting
-lent-marks t m e =
-    let a = and-both (lentForWriting (length t) (length m)) (marksLegal m) e in
-    eqb-true (length m) (length t) (and-both (lengthRight (length t)) (eqb (length m) (length t)) (a .0) .1)
-
--- Cells that agree up to place n give bytes and marks that do.
-bytes-copied : (n : ℕ) (e c : List ℕ) → take n e ≡ take n c → take n (bytesOf e) ≡ take n (bytesOf c)
-unfolding bytesOf
-bytes-copied n e c q = take-map (λ x. x % 256) n e ∙ ap (map (λ x. x % 256)) q ∙ sym (take-map (λ x. x % 256) n c)
-
-marks-copied : (n : ℕ) (e c : List ℕ) → take n e ≡ take n c → take n (marksOf e) ≡ take n (marksOf c)
-unfolding marksOf
-marks-copied n e c q = take-map (λ x. x / 256) n e ∙ ap (map (λ x. x / 256)) q ∙ sym (take-map (λ x. x / 256) n c)
 
 module _ (gap : ℕ → ℕ → ℕ) (t m : List ℕ) (l k b7 s : ℕ) (key body : List ℕ) where
   -- Between pairs lent within the rule Add is that of the cells.

@@ -1,5 +1,5 @@
 -- A correction of a lent pair: what it writes is accepted, and it has room exactly where the last block ends early enough.
-use mathlib.Core.Path.{_≡_, refl, sym, ap, _∙_}
+use mathlib.Core.Path.{_≡_, refl, sym, ap, ap₂, _∙_}
 use Prim.Native.Nat.{ℕ, _+_, _-_, _≤_, _<_}
 use native.Mathlib.Omega.{arith}
 use mathlib.Core.Bool.{true}
@@ -9,7 +9,7 @@ use lib.Seq.{length-take-le}
 use borrow.Author.Tests.{le-leb, lt-leb}
 use Rattle.format.specs.Answer.{roomMissing}
 use Rattle.format.specs.Judged.{Judged, good, refused}
-use Rattle.format.specs.Lent.{lengthRight, cells}
+use Rattle.format.specs.Lent.{lengthRight, cells, bytesOf, marksOf, unmarked}
 use Rattle.format.specs.Block.{leastGap}
 use Rattle.format.specs.Span.{joined}
 use Rattle.format.specs.Sector.{Sector}
@@ -18,31 +18,44 @@ use Rattle.format.specs.Written.{Pair, reach, writtenSpans, writtenBehin
 use Rattle.format.specs.Blank.{contentRight}
 use Rattle.format.specs.Add.{fromNumber}
 use Rattle.format.specs.Correct.{withContent, sectorsOf, rewrittenFrom, correctCells}
-use Rattle.format.specs.Together.{Correction, replacedBy, corrected, correctedPair}
+use Rattle.format.specs.Together.{Correction, replacedBy, leftPlace, corrected, correctedPair}
 use Rattle.format.proofs.Replaced.{Bytes}
-use Rattle.format.proofs.Pairs.{accept-pair, accepted-pair, lent-length, written-pair, length-bytes, length-marks}
+use Rattle.format.proofs.Pairs.{bytes-cells, marks-cells, length-bytes, length-marks, bytes-copied, marks-copied, lent-marks, accept-pair, accepted-pair, lent-length, written-pair}
 use Rattle.format.proofs.Orders.{correct-accepted}
 use Rattle.format.proofs.PairOrders.{lent-corrected}
 
 module _ (gap : ℕ → ℕ → ℕ) where
-  -- The corrected pair is accepted, as long as before, with the same home and the same sectors but for the new key and data.
-  pub correct-pair : ((k d : ℕ) → 21 ≤ gap k d) → (t m : List ℕ) (a : Accepted) → accept t m ≡ good a → (x : Correction) → Bytes x
+  -- The corrected pair is accepted, as long as before, with the same home and the same sectors but for the new key and data; bytes and marks before
+  -- the corrected sector are copied.
+  pub correct-pair : ((k d : ℕ) → 21 ≤ gap k d) → (t m : List ℕ) → unmarked t ≡ true → (a : Accepted) → accept t m ≡ good a → (x : Correction) → Bytes x
       → (q : Pair) → correctedPair gap t m x ≡ good q
-      → (b : Accepted) × (accept (q .track) (q .marks) ≡ good b) × (b .home ≡ a .home) × (sectorsOf (b .sectors) ≡ map (replacedBy x) (sectorsOf (a .sectors)))
-      × (length (q .track) ≡ length t) × (length (q .marks) ≡ length t)
-  correct-pair least t m a e x bx q k =
+      → (b : Accepted)
+      × (accept (q .track) (q .marks) ≡ good b)
+      × (b .home ≡ a .home)
+      × (sectorsOf (b .sectors) ≡ map (replacedBy x) (sectorsOf (a .sectors)))
+      × (length (q .track) ≡ length t)
+      × (length (q .marks) ≡ length t)
+      × (take (leftPlace (fromNumber (x .number) (a .sectors))) (q .track) ≡ take (leftPlace (fromNumber (x .number) (a .sectors))) t)
+      × (take (leftPlace (fromNumber (x .number) (a .sectors))) (q .marks) ≡ take (leftPlace (fromNumber (x .number) (a .sectors))) m)
+  correct-pair least t m ut a e x bx q k =
       let g = accepted-pair t m a e in
       let n = lent-length t m (g .0) in
       let i = written-pair (corrected gap (cells t m) x) q (sym (lent-corrected gap t m x (g .0)) ∙ k) in
       let c : List ℕ = i .0 in
       let s = correct-accepted gap least (cells t m) a (g .1) x bx c (i .1) in
-      let long : length c ≡ length t = s .4 ∙ n .0 in (
+      let long : length c ≡ length t = s .4 ∙ n .0 in
+      let marked : length m ≡ length t = lent-marks t m (g .0) in
+      let track : bytesOf c ≡ q .track = ap (λ (z : Pair). z .track) (i .2) in
+      let marks : marksOf c ≡ q .marks = ap (λ (z : Pair). z .marks) (i .2) in
+      let p : ℕ = leftPlace (fromNumber (x .number) (a .sectors)) in (
         s .0,
-        ap (λ (z : Pair). accept (z .track) (z .marks)) (sym (i .2)) ∙ accept-pair c (s .0) (ap lengthRight long ∙ n .1) (s .1),
+        sym (ap₂ accept track marks) ∙ accept-pair c (s .0) (ap lengthRight long ∙ n .1) (s .1),
         s .2,
         s .3,
-        ap (λ (z : Pair). length (z .track)) (sym (i .2)) ∙ length-bytes c ∙ long,
-        ap (λ (z : Pair). length (z .marks)) (sym (i .2)) ∙ length-marks c ∙ long,
+        ap length (sym track) ∙ length-bytes c ∙ long,
+        ap length (sym marks) ∙ length-marks c ∙ long,
+        ap (take p) (sym track) ∙ bytes-copied p c (cells t m) (s .5) ∙ ap (take p) (bytes-cells t m marked ut),
+        ap (take p) (sym marks) ∙ marks-copied p c (cells t m) (s .5) ∙ ap (take p) (marks-cells t m marked ut),
       )
 
   -- Where the last block ends if the sector y, with the sectors ys behind it, gets a new key and data, and the least gap behind it.

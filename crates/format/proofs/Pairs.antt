@@ -3,8 +3,8 @@ use mathlib.Core.Path.{_≡_, refl, sym, ap, ap₂, _∙_}
 use Prim.Native.Nat.{ℕ, zero, suc, _/_, _%_}
 use native.Mathlib.Omega.{arith}
 use mathlib.Core.Bool.{Bool, true, _&&_}
-use mathlib.Core.List.{List, [], _∷_}
-use lib.ListN.{length, drop, length-map}
+use mathlib.Core.List.{List, [], _∷_, map}
+use lib.ListN.{length, take, drop, length-map}
 use lib.Dec.{ltb, leb, eqb}
 use borrow.Author.Tests.{ltb-true, lt-ltb, eqb-true, eq-eqb}
 use Rattle.format.specs.Answer.{lentWrong, markStray}
@@ -14,6 +14,7 @@ use Rattle.format.specs.Opening.{startsWith, markedOpening, opens}
 use Rattle.format.specs.Accept.{judgeMarks, Accepted, firstCountEnd, acceptCells, accept}
 use Rattle.format.specs.Written.{Pair, asPair}
 use Rattle.format.proofs.Judged.{cases, false-true, and-both, and-make, good-inj, then-good, require-good}
+use Rattle.format.proofs.Lists.{take-map}
 use Rattle.format.proofs.ReadsAs.{accepted-by}
 
 -- The cells of the bytes and marks of cells are those cells.
@@ -134,3 +135,19 @@ unfolding asPair
 written-pair j q e =
     let r = then-good j (λ c. good (pairOf c)) q e in
     (r .0, r .1, good-inj (pairOf (r .0)) q (r .2))
+
+-- A pair that is lent for reading has as many marks as bytes.
+pub lent-marks : (t m : List ℕ) → lentForReading t m ≡ true → length m ≡ length t
+unfolding lentForReading lentForWriting
+lent-marks t m e =
+    let a = and-both (lentForWriting (length t) (length m)) (marksLegal m) e in
+    eqb-true (length m) (length t) (and-both (lengthRight (length t)) (eqb (length m) (length t)) (a .0) .1)
+
+-- Cells that agree up to place n give bytes and marks that do.
+pub bytes-copied : (n : ℕ) (e c : List ℕ) → take n e ≡ take n c → take n (bytesOf e) ≡ take n (bytesOf c)
+unfolding bytesOf
+bytes-copied n e c q = take-map (λ x. x % 256) n e ∙ ap (map (λ x. x % 256)) q ∙ sym (take-map (λ x. x % 256) n c)
+
+pub marks-copied : (n : ℕ) (e c : List ℕ) → take n e ≡ take n c → take n (marksOf e) ≡ take n (marksOf c)
+unfolding marksOf
+marks-copied n e c q = take-map (λ x. x / 256) n e ∙ ap (map (λ x. x / 256)) q ∙ sym (take-map (λ x. x / 256) n c)
