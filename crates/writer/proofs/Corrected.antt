@@ -33,7 +33,7 @@ use Rattle.sectors.specs.Stepped.{Stepped, steppedAt, addressAt, asStepped}
 use Rattle.sectors.proofs.From.{SectorsFrom, step-at, steps-end, accepted-start}
 use Rattle.writer.specs.After.{filledSpan}
 use Rattle.writer.specs.Left.{Readable, Left, RoomFor, laterCells, farthest, correctedEnd, correctedCells}
-use Rattle.writer.proofs.Filled.{take-over}
+use Rattle.writer.proofs.Filled.{over-front}
 use Rattle.writer.proofs.Farthest.{farthest-from}
 use Rattle.writer.proofs.Later.{spanEnd, room-split, none-sectors, bytes-more, marks-more}
 
@@ -181,25 +181,25 @@ module _ (t m : List ℕ) (q : ℕ) (first : Bool) (x : Placed) (xs : List Place
       pub content-room : (q + sectorSize first (length key) (length body) ≤ to) × (to ≤ l) × RoomFor l to xs
       content-room = (omega (arith, split .0, size-new), split .1, split .2)
 
-      module _ (a : AddressCode) (ad : asAddress a ≡ addressAt first q (cells t m)) (kept old new' last : List ℕ)
-          (ql : q ≤ length new') (qk : length kept ≡ q) (over : new' ≡ laidOver kept old) (next : List ℕ) where
-        -- The bytes of the new track: the kept ones, the sector, and those behind it.
-        pub content-bytes : next ≡ laidAt q (bytesOf (filledSpan (to - q) (sectorFrom first (s .flag) (a .cylinder) (a .head) (s .number) key body))) new'
-            → last ≡ take to next ++ bytesOf (laterCells (l - to) xs) → last ≡ kept ++ bytesOf (correctedCells l q key body x xs)
+      module _ (a : AddressCode) (ad : asAddress a ≡ addressAt first q (cells t m)) (old one two last kept : List ℕ)
+          (ql : q ≤ length old) (qk : length kept ≡ q) (over : last ≡ laidOver kept two) where
+        -- The bytes of the new track: the sector, those behind it, and the kept ones over what stood before it.
+        pub content-bytes : one ≡ laidAt q (bytesOf (filledSpan (to - q) (sectorFrom first (s .flag) (a .cylinder) (a .head) (s .number) key body))) old
+            → two ≡ take to one ++ bytesOf (laterCells (l - to) xs) → last ≡ kept ++ bytesOf (correctedCells l q key body x xs)
         unfolding correctedCells
         content-bytes n z =
-            z ∙ bytes-more l q to new (sectorsOf xs) end-made (split .0) new' next _ ql
-            (n ∙ ap (λ (w : Sector). laidAt q (bytesOf (filledSpan (to - q) w)) new') (content-made a ad)) refl
-            ∙ ap (λ (w : List ℕ). w ++ bytesOf (correctedCells l q key body x xs)) (ap (take q) over ∙ take-over q kept old qk)
+            over-front q kept old two last _ ql qk over
+            (z ∙ bytes-more l q to new (sectorsOf xs) end-made (split .0) old one _ ql
+            (n ∙ ap (λ (w : Sector). laidAt q (bytesOf (filledSpan (to - q) w)) old) (content-made a ad)) refl)
 
         -- And the marks.
-        pub content-marks : next ≡ laidAt q (marksOf (filledSpan (to - q) (sectorFrom first (s .flag) (a .cylinder) (a .head) (s .number) key body))) new'
-            → last ≡ take to next ++ marksOf (laterCells (l - to) xs) → last ≡ kept ++ marksOf (correctedCells l q key body x xs)
+        pub content-marks : one ≡ laidAt q (marksOf (filledSpan (to - q) (sectorFrom first (s .flag) (a .cylinder) (a .head) (s .number) key body))) old
+            → two ≡ take to one ++ marksOf (laterCells (l - to) xs) → last ≡ kept ++ marksOf (correctedCells l q key body x xs)
         unfolding correctedCells
         content-marks n z =
-            z ∙ marks-more l q to new (sectorsOf xs) end-made (split .0) new' next _ ql
-            (n ∙ ap (λ (w : Sector). laidAt q (marksOf (filledSpan (to - q) w)) new') (content-made a ad)) refl
-            ∙ ap (λ (w : List ℕ). w ++ marksOf (correctedCells l q key body x xs)) (ap (take q) over ∙ take-over q kept old qk)
+            over-front q kept old two last _ ql qk over
+            (z ∙ marks-more l q to new (sectorsOf xs) end-made (split .0) old one _ ql
+            (n ∙ ap (λ (w : Sector). laidAt q (marksOf (filledSpan (to - q) w)) old) (content-made a ad)) refl)
 
 -- A front that is kept and cells behind it, as bytes.
 pub kept-bytes : (q : ℕ) (t m W X T : List ℕ) → length m ≡ length t → unmarked t ≡ true → W ≡ X → T ≡ take q t ++ bytesOf W → T ≡ bytesOf (take q (cells t m) ++ X)

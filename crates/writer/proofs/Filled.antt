@@ -5,7 +5,7 @@ use native.Mathlib.Omega.{arith}
 use mathlib.Core.Bool.{Bool, true, false}
 use mathlib.Core.List.{List, [], _++_, append-nil, append-assoc}
 use lib.ListN.{length, take, drop, replicate, length-append, length-replicate, length-drop, drop-of-length-le}
-use lib.Seq.{take-at, length-take-le}
+use lib.Seq.{take-at, drop-at, length-take-le}
 use lib.Dec.{lit<, eqb}
 use borrow.Author.Tests.{leb-true}
 use borrow.Rule.Slice.PartMut.{putMid}
@@ -98,6 +98,13 @@ take-laid p n w old h e =
 pub take-over : (n : ℕ) (w old : List ℕ) → length w ≡ n → take n (laidOver w old) ≡ w
 unfolding laidOver
 take-over n w old e = take-at w (drop (length w) old) n e
+
+-- What is laid over a front of the same length leaves what stands behind it.
+pub over-front : (n : ℕ) (w old new last rest : List ℕ) → n ≤ length old → length w ≡ n → last ≡ laidOver w new → new ≡ take n old ++ rest → last ≡ w ++ rest
+unfolding laidOver
+over-front n w old new last rest h e f g =
+    f ∙ ap (λ (z : List ℕ). w ++ drop (length w) z) g
+    ∙ ap (λ (z : List ℕ). w ++ z) (drop-at (take n old) rest (length w) (length-take-le n old h ∙ sym e))
 
 module _ (p to n : ℕ) (s : Sector) (e : n ≡ length (writtenSector s)) where
   -- The bytes of a sector laid at p and a gap behind it are those of a filled span.

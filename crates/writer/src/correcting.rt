@@ -120,13 +120,13 @@ fn write_corrected(
     ensures bytes { λ _. ⌜ ((x : Placed) (xs : List Placed) → SectorsFrom (now (track .entry)) (now (marks .entry)) q first (x ∷ xs) → now (out .exit) ≡ take q (now (track .entry)) ++ bytesOf (correctedCells (length (now (track .entry))) q (now (key .entry)) (now (body .entry)) x xs)) ⌝ }
     ensures marks { λ _. ⌜ ((x : Placed) (xs : List Placed) → SectorsFrom (now (track .entry)) (now (marks .entry)) q first (x ∷ xs) → now («out_marks» .exit) ≡ take q (now (marks .entry)) ++ marksOf (correctedCells (length (now (track .entry))) q (now (key .entry)) (now (body .entry)) x xs)) ⌝ }
 {
-    copy_kept(track, marks, out, out_marks, q);
     let x = sectors::sector_at(track, marks, first, q);
     let a = sectors::address_at(track, marks, first, q);
     let l = track.len();
     let to = span_end(q, first, key.len(), body.len(), x.last, l);
     put_span(out, out_marks, q, to, first, x.flag, a, x.number, key, body);
     write_later(track, marks, out, out_marks, x.next, to);
+    copy_kept(track, marks, out, out_marks, q);
 }
 
 // Correct on an accepted track whose sector 0 opens at place `start`: 14, 12, 15, and then the new track is written.

@@ -1,4 +1,4 @@
--- `write_corrected` meets its contract: the kept front, the corrected sector, and those behind it.
+-- `write_corrected` meets its contract: the corrected sector, those behind it, and the kept front.
 use mathlib.Core.Path.{_≡_, _∙_}
 use Prim.Native.Nat.{_≤_}
 use native.Mathlib.Omega.{arith}
@@ -13,13 +13,6 @@ use Rattle.writer.proofs.Corrected.{first-left, later-steps, content-ro
 use Rattle.writer.proofs.correcting.write_corrected.Statement.{statement}
 use Rattle.writer.proofs.correcting.write_corrected.Tie as tie
 
-copy-kept-requires : tie.Need-copy-kept-requires
-copy-kept-requires c κs =
-    let pre = c .before .before .before .before .before .before .before .before .pre in
-    let long = pre .1 .1 .1 in
-    let low = pre .1 .0 .0 in
-    ((omega (arith, low), omega (arith, low, long)), (omega (arith, low, long), omega (arith, low, long)))
-
 sector-at-requires : tie.Need-sector-at-requires
 sector-at-requires c κs = search needs
 
@@ -28,29 +21,27 @@ address-at-requires c κs = search needs
 
 span-end-requires : tie.Need-span-end-requires
 span-end-requires c κs =
-    let pre = c .before .before .before .before .before .before .before .before .before .before .before .before .before .before .before .pre in
+    let pre = c .before .before .before .before .before .before .before .before .pre in
     (pre .1 .1 .0, omega (arith, pre .1 .0 .0, pre .0 .length-most))
 
 put-span-requires : tie.Need-put-span-requires
 put-span-requires c κs =
-    let a = c .before .before .before .before .before .before .before .before .before .before .before .before .before .before .before .before .before .before .args in
-    let pre = c .before .before .before .before .before .before .before .before .before .before .before .before .before .before .before .before .before .before .pre in
+    let a = c .before .before .before .before .before .before .before .before .before .before .before .args in
+    let pre = c .before .before .before .before .before .before .before .before .before .before .before .pre in
     let long = pre .1 .1 .1 in
     let s = c .before .before .before .before .sector-at in
-    let one = c .before .before .before .before .before .before .before .before .before .copy-kept in
     let z = first-left (a .track .now) (a .marks .now) (a .q) (a .first) (pre .0) (pre .1 .0 .0) in
     let r = content-room (a .track .now) (a .marks .now) (a .q) (a .first) (z .sector) (z .later) (z .steps) (s .result) (s .ensures) (a .key .now) (a .body .now)
     (length (a .track .now)) (c .before .before .span-end .result) (c .before .before .span-end .ensures) (pre .1 .0 .1 (z .sector) (z .later) (z .steps)) in
-    (pre .1 .1 .0, (r .0, (omega (arith, r .1, one .kept .1 .1 .0, long), omega (arith, r .1, one .kept .1 .1 .1 .0, long))))
+    (pre .1 .1 .0, (r .0, (omega (arith, r .1, long), omega (arith, r .1, long))))
 
 write-later-requires : tie.Need-write-later-requires
 write-later-requires c κs =
-    let a = c .before .before .before .before .before .before .before .before .before .before .before .before .before .before .before .before .before .before .before .before .before .before .before .before .before .args in
-    let pre = c .before .before .before .before .before .before .before .before .before .before .before .before .before .before .before .before .before .before .before .before .before .before .before .before .before .pre in
+    let a = c .before .before .before .before .before .before .before .before .before .before .before .before .before .before .before .before .before .before .args in
+    let pre = c .before .before .before .before .before .before .before .before .before .before .before .before .before .before .before .before .before .before .pre in
     let long = pre .1 .1 .1 in
     let s = c .before .before .before .before .before .before .before .before .before .before .before .sector-at in
-    let one = c .before .before .before .before .before .before .before .before .before .before .before .before .before .before .before .before .copy-kept in
-    let two = c .before .before .before .before .before .before .put-span in
+    let one = c .before .before .before .before .before .before .put-span in
     let z = first-left (a .track .now) (a .marks .now) (a .q) (a .first) (pre .0) (pre .1 .0 .0) in
     let r = content-room (a .track .now) (a .marks .now) (a .q) (a .first) (z .sector) (z .later) (z .steps) (s .result) (s .ensures) (a .key .now) (a .body .now)
     (length (a .track .now)) (c .before .before .before .before .before .before .before .before .before .span-end .result) (c .before .before .before .before .before .before .before .before .before .span-end .ensures) (pre .1 .0 .1 (z .sector) (z .later) (z .steps)) in (
@@ -63,8 +54,19 @@ write-later-requires c κs =
         };
         room = r .2;
       },
-      (two .kept .0 ∙ one .kept .1 .1 .0 ∙ long .1, two .kept .1 .0 ∙ one .kept .1 .1 .1 .0 ∙ long .2),
+      (one .kept .0 ∙ long .1, one .kept .1 .0 ∙ long .2),
     )
+
+copy-kept-requires : tie.Need-copy-kept-requires
+copy-kept-requires c κs =
+    let pre = c .before .before .before .before .before .before .before .before .before .before .before .before .before .before .before .before .before .before .before .before .before .before .before .before .before .pre in
+    let long = pre .1 .1 .1 in
+    let low = pre .1 .0 .0 in
+    let one = c .before .before .before .before .before .before .before .before .before .before .before .before .before .put-span in
+    let two = c .before .before .before .before .before .before .write-later in
+    let longT = two .kept .1 .1 .0 ∙ one .kept .0 ∙ long .1 in
+    let longM = two .kept .1 .1 .1 .0 ∙ one .kept .1 .0 ∙ long .2 in
+    ((omega (arith, low), omega (arith, low, long)), (omega (arith, low, longT), omega (arith, low, longM)))
 
 same-length : tie.Need-same-length
 same-length c = search needs
@@ -77,43 +79,41 @@ returns c =
     let a = c .before .before .before .before .before .before .before .before .before .before .before .before .before .before .before .before .before .before .before .before .before .before .before .before .before .before .before .before .before .before .args in
     let pre = c .before .before .before .before .before .before .before .before .before .before .before .before .before .before .before .before .before .before .before .before .before .before .before .before .before .before .before .before .before .before .pre in
     let long = pre .1 .1 .1 in
-    let s = c .before .before .before .before .before .before .before .before .before .before .before .before .before .before .before .before .sector-at in
-    let one = c .before .before .before .before .before .before .before .before .before .before .before .before .before .before .before .before .before .before .before .before .before .copy-kept in
-    let two = c .before .before .before .before .before .before .before .before .before .before .before .put-span in
-    let three = c .before .before .before .before .write-later in
+    let s = c .before .before .before .before .before .before .before .before .before .before .before .before .before .before .before .before .before .before .before .before .before .before .before .sector-at in
+    let one = c .before .before .before .before .before .before .before .before .before .before .before .before .before .before .before .before .before .before .put-span in
+    let two = c .before .before .before .before .before .before .before .before .before .before .before .write-later in
+    let three = c .before .before .before .before .copy-kept in
     let t = a .track .now in
     let m = a .marks .now in
     let l = length t in
-    let to = c .before .before .before .before .before .before .before .before .before .before .before .before .before .before .span-end in
-    let ad = c .before .before .before .before .before .before .before .before .before .before .before .before .before .before .before .address-at in
+    let to = c .before .before .before .before .before .before .before .before .before .before .before .before .before .before .before .before .before .before .before .before .before .span-end in
+    let ad = c .before .before .before .before .before .before .before .before .before .before .before .before .before .before .before .before .before .before .before .before .before .before .address-at in
     let low : a .q ≤ l = omega (arith, pre .1 .0 .0) in
-    let longT : length (one .last .1 .1 .0) ≡ l = one .kept .1 .1 .0 ∙ long .1 in
-    let longM : length (one .last .1 .1 .1 .0) ≡ l = one .kept .1 .1 .1 .0 ∙ long .2 in
     let after : (x : Placed) (xs : List Placed) → SectorsFrom t m (a .q) (a .first) (x ∷ xs) → RoomFor l (to .result) xs =
     λ x xs f.
     content-room t m (a .q) (a .first) x xs f (s .result) (s .ensures) (a .key .now) (a .body .now) l (to .result) (to .ensures) (pre .1 .0 .1 x xs f) .2 in (
       λ x xs f.
           content-bytes t m (a .q) (a .first) x xs f (s .result) (s .ensures) (a .key .now) (a .body .now) l (to .result) (to .ensures) (pre .1 .0 .1 x xs f)
-          (ad .result) (ad .ensures) (take (a .q) t) (a .out .now) (one .last .1 .1 .0) (three .last .1 .1 .0) (omega (arith, low, longT))
-          (length-take-le (a .q) t low) (one .ensures .0) (two .last .0) (two .ensures .0)
-          (three .ensures .0 xs (later-steps t m (a .q) (a .first) x xs f (s .result) (s .ensures)) (after x xs f)),
+          (ad .result) (ad .ensures) (a .out .now) (one .last .0) (two .last .1 .1 .0) (three .last .1 .1 .0) (take (a .q) t) (omega (arith, low, long))
+          (length-take-le (a .q) t low) (three .ensures .0) (one .ensures .0)
+          (two .ensures .0 xs (later-steps t m (a .q) (a .first) x xs f (s .result) (s .ensures)) (after x xs f)),
       λ x xs f.
           content-marks t m (a .q) (a .first) x xs f (s .result) (s .ensures) (a .key .now) (a .body .now) l (to .result) (to .ensures) (pre .1 .0 .1 x xs f)
-          (ad .result) (ad .ensures) (take (a .q) m) (a .out-marks .now) (one .last .1 .1 .1 .0) (three .last .1 .1 .1 .0) (omega (arith, low, longM))
-          (length-take-le (a .q) m (omega (arith, low, long))) (one .ensures .1) (two .last .1 .0) (two .ensures .1)
-          (three .ensures .1 xs (later-steps t m (a .q) (a .first) x xs f (s .result) (s .ensures)) (after x xs f)),
+          (ad .result) (ad .ensures) (a .out-marks .now) (one .last .1 .0) (two .last .1 .1 .1 .0) (three .last .1 .1 .1 .0) (take (a .q) m) (omega (arith, low, long))
+          (length-take-le (a .q) m (omega (arith, low, long))) (three .ensures .1) (one .ensures .1)
+          (two .ensures .1 xs (later-steps t m (a .q) (a .first) x xs f (s .result) (s .ensures)) (after x xs f)),
     )
 
 pub write-corrected-spec : {M : Type 1} → statement M
 write-corrected-spec =
     tie.close
     (tie.spec
-    copy-kept-requires
     sector-at-requires
     address-at-requires
     span-end-requires
     put-span-requires
     write-later-requires
+    copy-kept-requires
     same-length
     same-length-2
     returns)
