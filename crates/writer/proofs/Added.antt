@@ -1,6 +1,6 @@
 -- Add on an accepted track: the last sector, the track that is written, and the answers in their order.
 use mathlib.Core.Path.{_≡_, refl, sym, ap, ap₂, _∙_, subst}
-use Prim.Native.Nat.{ℕ, suc, _+_, _-_, _%_, _≤_, _<_}
+use Prim.Native.Nat.{ℕ, suc, _+_, _*_, _-_, _≤_, _<_}
 use native.Mathlib.Omega.{arith}
 use mathlib.Core.Bool.{Bool, true, false}
 use mathlib.Core.List.{List, [], _∷_, _++_, append-assoc, append-nil}
@@ -34,19 +34,19 @@ use Rattle.writer.specs.Left.{Readable, Left}
 use Rattle.writer.proofs.Filled.{bytes-gap, marks-gap, filled-length, laid-to-end, take-laid, take-over}
 use Rattle.writer.proofs.Corrected.{FirstLeft, first-left, some-left, readable-steps, readable-left}
 
--- The sectors x and `later` from place p on: the last of them is `goal`, and the sector behind it stands in a position as odd as n.
-pub record Passing (t m : List ℕ) (start p b8 : ℕ) (goal : Placed) (n : ℕ) : Type 0 where
+-- The sectors x and `later` from place p on: the last of them is `goal`, and a sector behind it stands in position n, one behind x in position i.
+pub record Passing (t m : List ℕ) (start p i : ℕ) (goal : Placed) (n : ℕ) : Type 0 where
   pub x : Placed
   pub later : List Placed
   pub steps : SectorsFrom t m p (eqb p start) (x ∷ later)
   pub last-is : lastOf x later ≡ goal
-  pub parity : (b8 + length later) % 2 ≡ n % 2
+  pub position-is : i + length later ≡ n
 
--- The way to the last sector has come to place p.
+-- The way to the last sector has come to place p; every sector takes 49 bytes and more, so the positions stay few.
 abbrev pub Passed : List ℕ → List ℕ → ℕ → ℕ → ℕ → Type 0
-Passed t m start p b8 =
-    (start ≤ p) × (p < length t) × (b8 ≤ 1)
-    × ((x : Placed) (xs : List Placed) → SectorsFrom t m start true (x ∷ xs) → Passing t m start p b8 (lastOf x xs) (suc (length xs)))
+Passed t m start p i =
+    (start ≤ p) × (p < length t) × (49 * i ≤ p + 49)
+    × ((x : Placed) (xs : List Placed) → SectorsFrom t m start true (x ∷ xs) → Passing t m start p i (lastOf x xs) (suc (length xs)))
 
 -- It starts at sector 0.
 pub pass-start : (t m : List ℕ) (start : ℕ) → start < length t → Passed t m start start 1
@@ -59,27 +59,27 @@ pass-start t m start l = (
     later = xs;
     steps = subst (λ (b : Bool). SectorsFrom t m start b (x ∷ xs)) (sym (eq-eqb start start refl)) f;
     last-is = refl;
-    parity = ap (λ (n : ℕ). n % 2) (omega arith);
+    position-is = omega arith;
   },
 )
 
 -- The last sector, once it is reached.
-last-made : (t m : List ℕ) (start p b8 : ℕ) (x : Placed) (later : List Placed) (goal : Placed) (n : ℕ) → SectorsFrom t m p (eqb p start) (x ∷ later) → lastOf x later ≡ goal
-    → (b8 + length later) % 2 ≡ n % 2 → b8 ≤ 1 → none later ≡ true → SectorsFrom t m p (eqb p start) (goal ∷ []) × (b8 ≡ n % 2)
-last-made t m start p b8 x [] goal n f g e l o = (subst (λ (z : Placed). SectorsFrom t m p (eqb p start) (z ∷ [])) g f, omega (arith, e))
-last-made t m start p b8 x (y ∷ ys) goal n f g e l o = false-true o
+last-made : (t m : List ℕ) (start p i : ℕ) (x : Placed) (later : List Placed) (goal : Placed) (n : ℕ) → SectorsFrom t m p (eqb p start) (x ∷ later) → lastOf x later ≡ goal
+    → i + length later ≡ n → none later ≡ true → SectorsFrom t m p (eqb p start) (goal ∷ []) × (i ≡ n)
+last-made t m start p i x [] goal n f g e o = (subst (λ (z : Placed). SectorsFrom t m p (eqb p start) (z ∷ [])) g f, omega (arith, e))
+last-made t m start p i x (y ∷ ys) goal n f g e o = false-true o
 
 -- The way that is left, one sector further on.
-next-made : (t m : List ℕ) (start q b8 : ℕ) (x : Placed) (later : List Placed) (goal : Placed) (n : ℕ) → SectorsFrom t m q false later → eqb q start ≡ false → lastOf x later ≡ goal
-    → (b8 + length later) % 2 ≡ n % 2 → b8 ≤ 1 → none later ≡ false → Passing t m start q (1 - b8) goal n
-next-made t m start q b8 x [] goal n f e g k l o = false-true (sym o)
-next-made t m start q b8 x (y ∷ ys) goal n f e g k l o =
+next-made : (t m : List ℕ) (start q i : ℕ) (x : Placed) (later : List Placed) (goal : Placed) (n : ℕ) → SectorsFrom t m q false later → eqb q start ≡ false → lastOf x later ≡ goal
+    → i + length later ≡ n → none later ≡ false → Passing t m start q (i + 1) goal n
+next-made t m start q i x [] goal n f e g k o = false-true (sym o)
+next-made t m start q i x (y ∷ ys) goal n f e g k o =
     record {
       x = y;
       later = ys;
       steps = subst (λ (b : Bool). SectorsFrom t m q b (y ∷ ys)) (sym e) f;
       last-is = g;
-      parity = omega (arith, k);
+      position-is = omega (arith, k);
     }
 
 -- A sector that follows stands on the track.
@@ -87,45 +87,49 @@ more-inside : (t m : List ℕ) (q : ℕ) (later : List Placed) → SectorsFrom t
 more-inside t m q [] f o = false-true (sym o)
 more-inside t m q (y ∷ ys) f o = omega (arith, f .0 .span-least, f .0 .span-inside)
 
-module _ (t m : List ℕ) (start p b8 : ℕ) (u : Left t m start true) (low : start < length t) (i : Passed t m start p b8) (s : SectorAt)
+module _ (t m : List ℕ) (start p n : ℕ) (u : Left t m start true) (low : start < length t) (i : Passed t m start p n) (s : SectorAt)
     (e : asStepped s ≡ steppedAt (eqb p start) p (cells t m)) where
   -- The way that the requirement shows.
   abbrev head : FirstLeft t m start true
   head = first-left t m start true u low
 
-  abbrev here : Passing t m start p b8 (lastOf (head .sector) (head .later)) (suc (length (head .later)))
+  abbrev here : Passing t m start p n (lastOf (head .sector) (head .later)) (suc (length (head .later)))
   here = i .3 (head .sector) (head .later) (head .steps)
 
-  last-here : (goal : Placed) (n : ℕ) (v : Passing t m start p b8 goal n) → s .last ≡ none (v .later)
-  last-here goal n v = ap (λ (z : Stepped). z .last) e ∙ v .steps .0 .last-is
+  last-here : (goal : Placed) (k : ℕ) (v : Passing t m start p n goal k) → s .last ≡ none (v .later)
+  last-here goal k v = ap (λ (z : Stepped). z .last) e ∙ v .steps .0 .last-is
 
-  later-here : (goal : Placed) (n : ℕ) (v : Passing t m start p b8 goal n) → SectorsFrom t m (s .next) false (v .later)
-  later-here goal n v =
+  later-here : (goal : Placed) (k : ℕ) (v : Passing t m start p n goal k) → SectorsFrom t m (s .next) false (v .later)
+  later-here goal k v =
       subst (λ (q : ℕ). SectorsFrom t m q false (v .later)) (sym (ap (λ (z : Stepped). z .next) e ∙ v .steps .0 .next-is)) (v .steps .1)
 
   -- The span runs to index: it is the last one's.
   pub pass-last : s .last ≡ true → (x : Placed) (xs : List Placed) → SectorsFrom t m start true (x ∷ xs)
-      → SectorsFrom t m p (eqb p start) (lastOf x xs ∷ []) × (b8 ≡ suc (length xs) % 2)
+      → SectorsFrom t m p (eqb p start) (lastOf x xs ∷ []) × (n ≡ suc (length xs))
   pass-last o x xs f =
       let v = i .3 x xs f in
-      last-made t m start p b8 (v .x) (v .later) (lastOf x xs) (suc (length xs)) (v .steps) (v .last-is) (v .parity) (i .2) (sym (last-here _ _ v) ∙ o)
+      last-made t m start p n (v .x) (v .later) (lastOf x xs) (suc (length xs)) (v .steps) (v .last-is) (v .position-is) (sym (last-here _ _ v) ∙ o)
+
+  -- The position fits a byte.
+  pub pass-position : n ≤ 82
+  pass-position = omega (arith, i .1, i .2, u .length-most)
 
   -- Each step goes on.
   pub pass-onward : p + 49 ≤ s .next
   pass-onward = omega (arith, ap (λ (z : Stepped). z .next) e, here .steps .0 .next-is, here .steps .0 .span-least)
 
   -- The span does not: the way goes on at the next one.
-  pub pass-next : s .last ≡ false → Passed t m start (s .next) (1 - b8)
+  pub pass-next : s .last ≡ false → Passed t m start (s .next) (n + 1)
   pass-next o =
       let h = pass-onward in
       let inside : s .next < length (cells t m) = more-inside t m (s .next) (here .later) (later-here _ _ here) (sym (last-here _ _ here) ∙ o) in
       let first : eqb (s .next) start ≡ false = ne-eqb (s .next) start (λ q. omega (arith, i .0, h, q)) in (
         omega (arith, i .0, h),
         omega (arith, inside, u .cells-length),
-        omega (arith, i .2),
+        omega (arith, i .2, h),
         λ x xs f.
             let v = i .3 x xs f in
-            next-made t m start (s .next) b8 (v .x) (v .later) (lastOf x xs) (suc (length xs)) (later-here _ _ v) first (v .last-is) (v .parity) (i .2) (sym (last-here _ _ v) ∙ o),
+            next-made t m start (s .next) n (v .x) (v .later) (lastOf x xs) (suc (length xs)) (later-here _ _ v) first (v .last-is) (v .position-is) (sym (last-here _ _ v) ∙ o),
       )
 
 -- The new track in bytes: the kept front, the gap, and the new sector with the gap to index.

@@ -2,7 +2,7 @@
 ghost use mathlib.Core.Path.{_≡_};
 ghost use mathlib.Core.Bool.{true, false};
 ghost use mathlib.Core.List.{List, [], _∷_, _++_};
-ghost use Prim.Native.Nat.{ℕ, suc, _+_, _-_, _%_, _≤_, _<_};
+ghost use Prim.Native.Nat.{suc, _+_, _-_, _≤_, _<_};
 ghost use lib.ListN.{length, take, replicate};
 ghost use lib.Dec.{eqb};
 ghost use Rattle.format.specs.Answer.{answerAt};
@@ -23,36 +23,36 @@ use crate::copy_kept;
 use crate::place_of;
 use crate::put_span;
 
-// The last sector: its place, and B8 of the sector that comes behind it.
+// The last sector: its place, and the position of a sector added behind it.
 struct Last {
     place: usize,
-    b8: u8,
+    position: u8,
 }
 
 // The last of the sectors from sector 0 at place `start` on.
 fn last_of(track: &[u8], marks: &[u8], start: usize) -> Last
     requires { ⌜ Left (now track) (now marks) start true ⌝ }
     requires { ⌜ start < length (now track) ⌝ }
-    ensures { λ r. ⌜ ((x : Placed) (xs : List Placed) → SectorsFrom (now (track .entry)) (now (marks .entry)) start true (x ∷ xs) → (SectorsFrom (now (track .entry)) (now (marks .entry)) (r .place) (eqb (r .place) start) (lastOf x xs ∷ [])) × (r .b8 ≡ suc (length xs) % 2)) ⌝ }
+    ensures { λ r. ⌜ ((x : Placed) (xs : List Placed) → SectorsFrom (now (track .entry)) (now (marks .entry)) start true (x ∷ xs) → (SectorsFrom (now (track .entry)) (now (marks .entry)) (r .place) (eqb (r .place) start) (lastOf x xs ∷ [])) × (r .position ≡ suc (length xs))) ⌝ }
 {
     let mut p = start;
-    let mut b8: u8 = 1;
+    let mut position: u8 = 1;
     loop {
         let x = sectors::sector_at(track, marks, p == start, p);
         if x.last {
-            return Last { place: p, b8 };
+            return Last { place: p, position };
         }
         p = x.next;
-        b8 = 1 - b8;
+        position = position + 1;
     }
 }
 
-// The flag of a new sector: B8, B7, and B2 B1 as in the home flag f.
-fn added_flag(f: u8, b8: u8, b7: u8) -> u8
-    requires { ⌜ (b8 ≤ 1) × (b7 ≤ 1) ⌝ }
-    ensures { λ r. ⌜ ((i : ℕ) → b8 ≡ i % 2 → r ≡ addedFlag f i b7) ⌝ }
+// The flag of a new sector in position i: B8 by its position, B7, and B2 B1 as in the home flag f.
+fn added_flag(f: u8, i: u8, b7: u8) -> u8
+    requires { ⌜ b7 ≤ 1 ⌝ }
+    ensures { λ r. ⌜ r ≡ addedFlag f i b7 ⌝ }
 {
-    b8 * 128 + b7 * 64 + f % 4
+    i % 2 * 128 + b7 * 64 + f % 4
 }
 
 // Writes the new track: what stands before place `end` as it was, the gap up to place `to`, the new sector, and the gap to index.
@@ -111,7 +111,8 @@ fn add_behind(
         return format::room_missing();
     }
     let a = sectors::address_at(track, marks, p == start, p);
-    let flag = added_flag(f, last.b8, b7);
+    let i = last.position;
+    let flag = added_flag(f, i, b7);
     write_added(track, marks, out, out_marks, end, to, flag, a, s, key, body);
     format::done()
 }

@@ -1,6 +1,6 @@
 -- `add_behind` meets its contract: 15 before anything is written, then the new track.
 use mathlib.Core.Path.{_≡_, sym, ap, ap₂, _∙_}
-use Prim.Native.Nat.{ℕ, suc, _+_, _-_, _%_}
+use Prim.Native.Nat.{ℕ, suc, _+_, _-_}
 use native.Mathlib.Omega.{arith}
 use mathlib.Core.Bool.{true, false}
 use mathlib.Core.List.{List, [], _∷_, _++_}
@@ -154,17 +154,7 @@ address-at-requires : tie.Need-address-at-requires
 address-at-requires c κs = search needs
 
 added-flag-requires : tie.Need-added-flag-requires
-added-flag-requires c κs =
-    let a = c .before .before .before .before .before .before .before .before .before .before .before .before .before .before .args in
-    let t = a .track .now in
-    let m = a .marks .now in
-    let r = c .before .before .before .before .before .before .before .before .before .before .before .before .before .before .pre .0 .flagged .readable in
-    let z = all-sectors t m (a .start) r in
-    let last = c .before .before .before .before .before .before .before .last-of in
-    let p = last .result .place in
-    let y = lastOf (z .x) (z .xs) in
-    let f : SectorsFrom t m p (eqb p (a .start)) (lastOf (z .x) (z .xs) ∷ []) = last .ensures (z .x) (z .xs) (z .steps) .0 in
-    (omega (arith, last .ensures (z .x) (z .xs) (z .steps) .1), c .before .before .before .before .before .before .before .before .before .before .before .before .before .before .pre .1 .0 .0)
+added-flag-requires c κs = c .before .before .before .before .before .before .before .before .before .before .before .before .before .before .pre .1 .0 .0
 
 write-added-requires : tie.Need-write-added-requires
 write-added-requires c κs =
@@ -210,9 +200,9 @@ returns-2 c =
     let h = r .accepted .home in
     let ad = c .before .before .before .before .before .before .before .before .before .address-at in
     let wrote = c .before .before .before .before .before .write-added in
-    let b8 : last .result .b8 ≡ suc (0 + length (z .xs)) % 2 = last .ensures (z .x) (z .xs) (z .steps) .1 ∙ ap (λ (n : ℕ). suc n % 2) (omega arith) in
+    let at : last .result .position ≡ suc (0 + length (z .xs)) = omega (arith, last .ensures (z .x) (z .xs) (z .steps) .1) in
     let flag : c .before .before .before .before .before .before .before .before .added-flag .result ≡ addedFlag (h .flag) (suc (0 + length (z .xs))) (a .b7) =
-    c .before .before .before .before .before .before .before .before .added-flag .ensures (suc (0 + length (z .xs))) b8 ∙ ap (λ (n : ℕ). addedFlag n (suc (0 + length (z .xs))) (a .b7)) (c .before .before .before .before .before .before .before .before .before .before .before .before .before .before .before .before .before .before .before .before .before .before .before .pre .0 .flagged .flag-is) in
+    c .before .before .before .before .before .before .before .before .added-flag .ensures ∙ ap₂ (λ (n i : ℕ). addedFlag n i (a .b7)) (c .before .before .before .before .before .before .before .before .before .before .before .before .before .before .before .before .before .before .before .before .before .before .before .pre .0 .flagged .flag-is) at in
     let made : sectorFrom false (c .before .before .before .before .before .before .before .before .added-flag .result) (ad .result .cylinder) (ad .result .head) (a .s) (a .key .now) (a .body .now)
     ≡ addedSector h (suc (0 + length (z .xs))) (lastOf (z .x) (z .xs)) (a .b7) (a .s) (a .key .now) (a .body .now) =
     added-made t m p (eqb p (a .start)) y f h (suc (0 + length (z .xs))) (ad .result) (c .before .before .before .before .before .before .before .before .added-flag .result) (a .b7) (a .s) (a .key .now) (a .body .now) (ad .ensures) flag in

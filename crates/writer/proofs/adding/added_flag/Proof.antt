@@ -1,6 +1,5 @@
 -- `added_flag` meets its contract.
-use mathlib.Core.Path.{ap}
-use Prim.Native.Nat.{ℕ, _+_, _*_, _%_}
+use mathlib.Core.Path.{refl}
 use Rattle.format.specs.Add.{addedFlag}
 use borrow.Author.Needs.{needs}
 use Rattle.writer.proofs.adding.added_flag.Statement.{statement}
@@ -20,7 +19,7 @@ add-result-2 c = search needs
 
 returns : tie.Need-returns
 unfolding addedFlag
-returns c = λ i e. ap (λ (n : ℕ). n * 128 + c .args .b7 * 64 + c .args .f % 4) e
+returns c = refl
 
 pub added-flag-spec : {M : Type 1} → statement M
 added-flag-spec = tie.close (tie.spec mul-result mul-result-2 add-result add-result-2 returns)
