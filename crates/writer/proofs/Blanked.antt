@@ -6,7 +6,7 @@ use mathlib.Core.Bool.{true, false, _&&_}
 use mathlib.Core.List.{List, _++_, append-nil}
 use lib.ListN.{length, take}
 use lib.Dec.{leb, eqb}
-use borrow.Author.Tests.{le-leb, lt-leb, eqb-true}
+use borrow.Author.Tests.{leb-true, le-leb, lt-leb, eqb-true}
 use Rattle.format.specs.Answer.{lentWrong, wantedWrong, roomMissing}
 use Rattle.format.specs.Judged.{good, refused}
 use Rattle.format.specs.Lent.{lengthRight, lentForWriting, bytesOf, marksOf}
@@ -36,6 +36,11 @@ blank-content own flag partner key body e =
 pub lent-same : (l k : ℕ) → lentForWriting l k ≡ true → k ≡ l
 unfolding lentForWriting
 lent-same l k e = eqb-true k l (and-both (lengthRight l) (eqb k l) e .1)
+
+-- And 3,815 of them at least.
+pub lent-least : (l k : ℕ) → lentForWriting l k ≡ true → 3815 ≤ l
+unfolding lentForWriting lengthRight
+lent-least l k e = leb-true 3815 l (and-both (leb 3815 l) (leb l 4002) (and-both (lengthRight l) (eqb k l) e .0) .0)
 
 module _ (l k : ℕ) (own : Address) (flag : ℕ) (partner : Address) (s : ℕ) (key body : List ℕ) where
   -- 1 where the pair is lent out of rule.

@@ -20,6 +20,7 @@ ghost use Rattle.writer.specs.Left.{ReadableFlag, Addable, Left};
 use crate::both_lent;
 use crate::content_right;
 use crate::copy_kept;
+use crate::judge_room;
 use crate::place_of;
 use crate::put_span;
 
@@ -107,14 +108,14 @@ fn add_behind(
     let end = x.end;
     let to = end + encode::gap_one(x.key_length as u8, x.data_length as u16);
     let n = encode::sector_size(false, key.len() as u8, body.len() as u16);
-    if track.len() < to + n + 13 {
-        return format::room_missing();
+    let room = judge_room(track.len(), to + n);
+    if room.number == 0 {
+        let a = sectors::address_at(track, marks, p == start, p);
+        let i = last.position;
+        let flag = added_flag(f, i, b7);
+        write_added(track, marks, out, out_marks, end, to, flag, a, s, key, body);
     }
-    let a = sectors::address_at(track, marks, p == start, p);
-    let i = last.position;
-    let flag = added_flag(f, i, b7);
-    write_added(track, marks, out, out_marks, end, to, flag, a, s, key, body);
-    format::done()
+    room
 }
 
 // Add on an accepted track whose sector 0 opens at place `start` and whose home has the flag f: 14, 13, 15, and then the new track is written.

@@ -12,6 +12,7 @@ ghost use Rattle.sector.specs.As.{asAddress};
 ghost use Rattle.encode.specs.Room.{addressOf, sectorSize};
 ghost use Rattle.writer.specs.After.{trackAfter, marksAfter, filledSpan};
 use crate::content_right;
+use crate::judge_room;
 use crate::put_span;
 use sector::Address;
 
@@ -93,10 +94,10 @@ pub fn blank(
         return format::wanted_wrong();
     }
     let n = encode::sector_size(true, key.len() as u8, body.len() as u16);
-    if track.len() < 55 + n + 13 {
-        return format::room_missing();
+    let a = judge_room(track.len(), 55 + n);
+    if a.number == 0 {
+        let named = named_by(flag, own, partner);
+        write_blank(track, marks, flag, own, named, s, key, body);
     }
-    let named = named_by(flag, own, partner);
-    write_blank(track, marks, flag, own, named, s, key, body);
-    format::done()
+    a
 }

@@ -16,6 +16,7 @@ ghost use Rattle.writer.specs.Left.{Readable, Left, LeftRoom, RoomFor, l
 use crate::both_lent;
 use crate::content_right;
 use crate::copy_kept;
+use crate::judge_room;
 use crate::place_of;
 use crate::put_span;
 use crate::span_end;
@@ -155,11 +156,11 @@ fn correct_on(
     }
     let first = q == start;
     let end = corrected_end(track, marks, q, first, key, body);
-    if track.len() - 13 < end {
-        return format::room_missing();
+    let a = judge_room(track.len(), end);
+    if a.number == 0 {
+        write_corrected(track, marks, out, out_marks, q, first, key, body);
     }
-    write_corrected(track, marks, out, out_marks, q, first, key, body);
-    format::done()
+    a
 }
 
 // Correct: 1, the old track's own answer, 14, 12 and 15 leave every byte and mark as it was; 0 where the new track is written.

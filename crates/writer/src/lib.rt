@@ -4,9 +4,11 @@ ghost use mathlib.Core.Bool.{true};
 ghost use mathlib.Core.List.{List};
 ghost use Prim.Native.Nat.{_+_, _-_, _≤_};
 ghost use lib.ListN.{length, take};
-ghost use lib.Dec.{eqb};
+ghost use lib.Dec.{eqb, leb};
 ghost use Rattle.crc.specs.Check.{pick};
+ghost use Rattle.format.specs.Answer.{answerAt, done, roomMissing};
 ghost use Rattle.format.specs.Lent.{bytesOf, marksOf};
+ghost use Rattle.format.specs.Block.{leastGap};
 ghost use Rattle.format.specs.Accept.{Placed};
 ghost use Rattle.format.specs.Written.{gapOne};
 ghost use Rattle.format.specs.Blank.{contentRight};
@@ -46,6 +48,17 @@ fn both_lent(track: &[u8], marks: &[u8], l: usize, k: usize) -> bool
         return false;
     }
     k == track.len()
+}
+
+// The answer to whether there is room: 15 where the last block would end later than l - 13, else 0.
+fn judge_room(l: usize, end: usize) -> format::Answer
+    requires { ⌜ 13 ≤ l ⌝ }
+    ensures { λ r. ⌜ answerAt (r .number) (r .place) ≡ pick (leb (end + leastGap true) l) done roomMissing ⌝ }
+{
+    if l - 13 < end {
+        return format::room_missing();
+    }
+    format::done()
 }
 
 // The place up to which a sector written at place `at` and the gap behind it reach: to index where it is the last, else by rule one.

@@ -15,7 +15,7 @@ use Rattle.encode.specs.Room.{sectorFrom}
 use Rattle.encode.proofs.Cells.{unmarked-bytes}
 use Rattle.sectors.proofs.From.{SectorsFrom}
 use Rattle.writer.specs.After.{filledSpan}
-use Rattle.writer.proofs.Outcome.{after-refused, after-good}
+use Rattle.writer.proofs.Outcome.{after-refused, after-good, room-done, room-short}
 use Rattle.writer.proofs.Filled.{content-bounds, size-most}
 use Rattle.writer.proofs.Corrected.{readable-left, readable-lengths, kept-bytes, kept-marks}
 use Rattle.writer.proofs.Added.{readable-low, all-sectors, last-lengths, last-end, last-gap, last-inside, added-made, add-short, add-done}
@@ -97,9 +97,9 @@ cast-sector-size-2 c =
 sector-size-requires : tie.Need-sector-size-requires
 sector-size-requires c κs = search needs
 
-add-if1 : tie.Need-add-if1
+add-judge-room : tie.Need-add-judge-room
 unfolding gapOne
-add-if1 c =
+add-judge-room c =
     let a = c .before .before .before .before .before .before .before .before .before .before .before .before .args in
     let t = a .track .now in
     let m = a .marks .now in
@@ -113,67 +113,32 @@ add-if1 c =
     let h = content-bounds (a .key .now) (a .body .now) (c .before .before .before .before .before .before .before .before .before .before .before .before .pre .1 .0 .1) in
     omega (arith, h, c .before .gap-one .ensures, c .sector-size .ensures, size-most false (length (a .key .now)) (length (a .body .now)), last-lengths t m p (eqb p (a .start)) y f (x .result) (x .ensures), last-inside t m p (eqb p (a .start)) y f (x .result) (x .ensures), readable-left t m (a .start) r .cells-length, readable-left t m (a .start) r .length-most)
 
-add-if1-2 : tie.Need-add-if1-2
-unfolding gapOne
-add-if1-2 c =
-    let a = c .before .before .before .before .before .before .before .before .before .before .before .before .args in
-    let t = a .track .now in
-    let m = a .marks .now in
-    let r = c .before .before .before .before .before .before .before .before .before .before .before .before .pre .0 .flagged .readable in
-    let z = all-sectors t m (a .start) r in
-    let last = c .before .before .before .before .before .last-of in
-    let p = last .result .place in
-    let y = lastOf (z .x) (z .xs) in
-    let f : SectorsFrom t m p (eqb p (a .start)) (lastOf (z .x) (z .xs) ∷ []) = last .ensures (z .x) (z .xs) (z .steps) .0 in
-    let x = c .before .before .before .before .sector-at in
-    let h = content-bounds (a .key .now) (a .body .now) (c .before .before .before .before .before .before .before .before .before .before .before .before .pre .1 .0 .1) in
-    omega (arith, h, c .before .gap-one .ensures, c .sector-size .ensures, size-most false (length (a .key .now)) (length (a .body .now)), last-lengths t m p (eqb p (a .start)) y f (x .result) (x .ensures), last-inside t m p (eqb p (a .start)) y f (x .result) (x .ensures), readable-left t m (a .start) r .cells-length, readable-left t m (a .start) r .length-most)
-
-room-missing-requires : tie.Need-room-missing-requires
-room-missing-requires c κs = search needs
-
-returns : tie.Need-returns
-returns c =
-    let a = c .before .before .before .before .before .before .before .before .before .before .before .before .before .before .args in
-    let t = a .track .now in
-    let m = a .marks .now in
-    let r = c .before .before .before .before .before .before .before .before .before .before .before .before .before .before .pre .0 .flagged .readable in
-    let z = all-sectors t m (a .start) r in
-    let last = c .before .before .before .before .before .before .before .last-of in
-    let p = last .result .place in
-    let y = lastOf (z .x) (z .xs) in
-    let f : SectorsFrom t m p (eqb p (a .start)) (lastOf (z .x) (z .xs) ∷ []) = last .ensures (z .x) (z .xs) (z .steps) .0 in
-    let x = c .before .before .before .before .before .before .sector-at in
-    after-refused _ _ _ (a .out .now) (a .out-marks .now)
-    (add-short t m (a .start) r (a .b7) (a .s) (a .key .now) (a .body .now) (c .before .before .before .before .before .before .before .before .before .before .before .before .before .before .pre .1 .0 .0) (c .before .before .before .before .before .before .before .before .before .before .before .before .before .before .pre .1 .0 .1) (c .before .before .before .before .before .before .before .before .before .before .before .before .before .before .pre .0 .absent) (z .x) (z .xs) (z .all) (x .result .end) (x .result .end + c .before .before .before .gap-one .result)
-    (last-end t m p (eqb p (a .start)) y f (x .result) (x .ensures)) (ap (λ (n : ℕ). x .result .end + n) (c .before .before .before .gap-one .ensures ∙ last-gap t m p (eqb p (a .start)) y f (x .result) (x .ensures))) (omega (arith, last-inside t m p (eqb p (a .start)) y f (x .result) (x .ensures)))
-    (omega (arith, c .before .if1 .taken, c .before .before .sector-size .ensures, readable-left t m (a .start) r .cells-length)))
-    (c .room-missing .ensures)
+judge-room-requires : tie.Need-judge-room-requires
+judge-room-requires c κs = let a = c .before .before .before .before .before .before .before .before .before .before .before .before .args in omega (arith, readable-lengths (a .track .now) (a .marks .now) (a .start) (c .before .before .before .before .before .before .before .before .before .before .before .before .pre .0 .flagged .readable))
 
 address-at-requires : tie.Need-address-at-requires
 address-at-requires c κs = search needs
 
 added-flag-requires : tie.Need-added-flag-requires
-added-flag-requires c κs = c .before .before .before .before .before .before .before .before .before .before .before .before .before .before .pre .1 .0 .0
+added-flag-requires c κs = c .before .before .before .before .before .before .before .before .before .before .before .before .before .before .before .before .pre .1 .0 .0
 
 write-added-requires : tie.Need-write-added-requires
 write-added-requires c κs =
-    let a = c .before .before .before .before .before .before .before .before .before .before .before .before .before .before .before .before .before .args in
+    let a = c .before .before .before .before .before .before .before .before .before .before .before .before .before .before .before .before .before .before .before .args in
     let t = a .track .now in
     let m = a .marks .now in
-    let r = c .before .before .before .before .before .before .before .before .before .before .before .before .before .before .before .before .before .pre .0 .flagged .readable in
+    let r = c .before .before .before .before .before .before .before .before .before .before .before .before .before .before .before .before .before .before .before .pre .0 .flagged .readable in
     let z = all-sectors t m (a .start) r in
-    let last = c .before .before .before .before .before .before .before .before .before .before .last-of in
+    let last = c .before .before .before .before .before .before .before .before .before .before .before .before .last-of in
     let p = last .result .place in
     let y = lastOf (z .x) (z .xs) in
     let f : SectorsFrom t m p (eqb p (a .start)) (lastOf (z .x) (z .xs) ∷ []) = last .ensures (z .x) (z .xs) (z .steps) .0 in
-    let x = c .before .before .before .before .before .before .before .before .before .sector-at in
+    let x = c .before .before .before .before .before .before .before .before .before .before .before .sector-at in
     let k = readable-lengths t m (a .start) r in
-    let long = c .before .before .before .before .before .before .before .before .before .before .before .before .before .before .before .before .before .pre .1 .1 in
-    (content-bounds (a .key .now) (a .body .now) (c .before .before .before .before .before .before .before .before .before .before .before .before .before .before .before .before .before .pre .1 .0 .1), ((omega arith, omega (arith, c .before .before .before .before .if1 .left, c .before .before .before .before .before .sector-size .ensures)), (k .1, long .0, long .1)))
-
-done-requires : tie.Need-done-requires
-done-requires c κs = search needs
+    let judged = c .before .before .before .before .before .before .judge-room in
+    let room = room-done (judged .result .number) (judged .result .place) (x .result .end + c .before .before .before .before .before .before .before .before .gap-one .result + c .before .before .before .before .before .before .before .sector-size .result) (length t) (judged .ensures) (c .before .before .before .before .if1 .taken) in
+    let long = c .before .before .before .before .before .before .before .before .before .before .before .before .before .before .before .before .before .before .before .pre .1 .1 in
+    (content-bounds (a .key .now) (a .body .now) (c .before .before .before .before .before .before .before .before .before .before .before .before .before .before .before .before .before .before .before .pre .1 .0 .1), ((omega arith, omega (arith, room .0, c .before .before .before .before .before .before .before .sector-size .ensures)), (k .1, long .0, long .1)))
 
 same-length : tie.Need-same-length
 same-length c = search needs
@@ -181,41 +146,63 @@ same-length c = search needs
 same-length-2 : tie.Need-same-length-2
 same-length-2 c = search needs
 
-returns-2 : tie.Need-returns-2
-returns-2 c =
-    let a = c .before .before .before .before .before .before .before .before .before .before .before .before .before .before .before .before .before .before .before .before .before .before .before .args in
+returns : tie.Need-returns
+returns c =
+    let a = c .before .before .before .before .before .before .before .before .before .before .before .before .before .before .before .before .before .before .before .before .before .before .before .before .args in
     let t = a .track .now in
     let m = a .marks .now in
-    let r = c .before .before .before .before .before .before .before .before .before .before .before .before .before .before .before .before .before .before .before .before .before .before .before .pre .0 .flagged .readable in
+    let r = c .before .before .before .before .before .before .before .before .before .before .before .before .before .before .before .before .before .before .before .before .before .before .before .before .pre .0 .flagged .readable in
     let z = all-sectors t m (a .start) r in
-    let last = c .before .before .before .before .before .before .before .before .before .before .before .before .before .before .before .before .last-of in
+    let last = c .before .before .before .before .before .before .before .before .before .before .before .before .before .before .before .before .before .last-of in
     let p = last .result .place in
     let y = lastOf (z .x) (z .xs) in
     let f : SectorsFrom t m p (eqb p (a .start)) (lastOf (z .x) (z .xs) ∷ []) = last .ensures (z .x) (z .xs) (z .steps) .0 in
-    let x = c .before .before .before .before .before .before .before .before .before .before .before .before .before .before .before .sector-at in
+    let x = c .before .before .before .before .before .before .before .before .before .before .before .before .before .before .before .before .sector-at in
     let u = readable-left t m (a .start) r in
     let k = readable-lengths t m (a .start) r in
     let end = x .result .end in
-    let to = end + c .before .before .before .before .before .before .before .before .before .before .before .before .gap-one .result in
+    let to = end + c .before .before .before .before .before .before .before .before .before .before .before .before .before .gap-one .result in
+    let judged = c .before .before .before .before .before .before .before .before .before .before .before .judge-room in
+    let room = room-done (judged .result .number) (judged .result .place) (x .result .end + c .before .before .before .before .before .before .before .before .before .before .before .before .before .gap-one .result + c .before .before .before .before .before .before .before .before .before .before .before .before .sector-size .result) (length t) (judged .ensures) (c .before .before .before .before .before .before .before .before .before .if1 .taken) in
     let h = r .accepted .home in
-    let ad = c .before .before .before .before .before .before .before .before .before .address-at in
-    let wrote = c .before .before .before .before .before .write-added in
+    let ad = c .before .before .before .before .before .before .before .before .address-at in
+    let wrote = c .before .before .before .before .write-added in
     let at : last .result .position ≡ suc (0 + length (z .xs)) = omega (arith, last .ensures (z .x) (z .xs) (z .steps) .1) in
-    let flag : c .before .before .before .before .before .before .before .before .added-flag .result ≡ addedFlag (h .flag) (suc (0 + length (z .xs))) (a .b7) =
-    c .before .before .before .before .before .before .before .before .added-flag .ensures ∙ ap₂ (λ (n i : ℕ). addedFlag n i (a .b7)) (c .before .before .before .before .before .before .before .before .before .before .before .before .before .before .before .before .before .before .before .before .before .before .before .pre .0 .flagged .flag-is) at in
-    let made : sectorFrom false (c .before .before .before .before .before .before .before .before .added-flag .result) (ad .result .cylinder) (ad .result .head) (a .s) (a .key .now) (a .body .now)
+    let flag : c .before .before .before .before .before .before .before .added-flag .result ≡ addedFlag (h .flag) (suc (0 + length (z .xs))) (a .b7) =
+    c .before .before .before .before .before .before .before .added-flag .ensures ∙ ap₂ (λ (n i : ℕ). addedFlag n i (a .b7)) (c .before .before .before .before .before .before .before .before .before .before .before .before .before .before .before .before .before .before .before .before .before .before .before .before .pre .0 .flagged .flag-is) at in
+    let made : sectorFrom false (c .before .before .before .before .before .before .before .added-flag .result) (ad .result .cylinder) (ad .result .head) (a .s) (a .key .now) (a .body .now)
     ≡ addedSector h (suc (0 + length (z .xs))) (lastOf (z .x) (z .xs)) (a .b7) (a .s) (a .key .now) (a .body .now) =
-    added-made t m p (eqb p (a .start)) y f h (suc (0 + length (z .xs))) (ad .result) (c .before .before .before .before .before .before .before .before .added-flag .result) (a .b7) (a .s) (a .key .now) (a .body .now) (ad .ensures) flag in
+    added-made t m p (eqb p (a .start)) y f h (suc (0 + length (z .xs))) (ad .result) (c .before .before .before .before .before .before .before .added-flag .result) (a .b7) (a .s) (a .key .now) (a .body .now) (ad .ensures) flag in
     let W : ℕ → Sector → List ℕ = λ l n. replicate (to - end) 0xFF ++ filledSpan (l - to) n in
     let same = ap₂ W (sym (u .cells-length)) made in
-    let bytes : unmarked t ≡ true = unmarked-bytes t (λ i. omega (arith, c .before .before .before .before .before .before .before .before .before .before .before .before .before .before .before .before .before .before .before .before .before .before .shared-slice-known .given i)) in
+    let bytes : unmarked t ≡ true = unmarked-bytes t (λ i. omega (arith, c .before .before .before .before .before .before .before .before .before .before .before .before .before .before .before .before .before .before .before .before .before .before .before .shared-slice-known .given i)) in
     after-good _ _ _ (a .out .now) (a .out-marks .now) (wrote .last .1 .1 .0) (wrote .last .1 .1 .1 .0)
-    (add-done t m (a .start) r (a .b7) (a .s) (a .key .now) (a .body .now) (c .before .before .before .before .before .before .before .before .before .before .before .before .before .before .before .before .before .before .before .before .before .before .before .pre .1 .0 .0) (c .before .before .before .before .before .before .before .before .before .before .before .before .before .before .before .before .before .before .before .before .before .before .before .pre .1 .0 .1) (c .before .before .before .before .before .before .before .before .before .before .before .before .before .before .before .before .before .before .before .before .before .before .before .pre .0 .absent) (z .x) (z .xs) (z .all) (x .result .end) (x .result .end + c .before .before .before .before .before .before .before .before .before .before .before .before .gap-one .result)
-    (last-end t m p (eqb p (a .start)) y f (x .result) (x .ensures)) (ap (λ (n : ℕ). x .result .end + n) (c .before .before .before .before .before .before .before .before .before .before .before .before .gap-one .ensures ∙ last-gap t m p (eqb p (a .start)) y f (x .result) (x .ensures))) (omega (arith, last-inside t m p (eqb p (a .start)) y f (x .result) (x .ensures)))
-    (omega (arith, c .before .before .before .before .before .before .before .before .before .before .if1 .left, c .before .before .before .before .before .before .before .before .before .before .before .sector-size .ensures, u .cells-length)))
-    (c .done .ensures)
+    (add-done t m (a .start) r (a .b7) (a .s) (a .key .now) (a .body .now) (c .before .before .before .before .before .before .before .before .before .before .before .before .before .before .before .before .before .before .before .before .before .before .before .before .pre .1 .0 .0) (c .before .before .before .before .before .before .before .before .before .before .before .before .before .before .before .before .before .before .before .before .before .before .before .before .pre .1 .0 .1) (c .before .before .before .before .before .before .before .before .before .before .before .before .before .before .before .before .before .before .before .before .before .before .before .before .pre .0 .absent) (z .x) (z .xs) (z .all) (x .result .end) (x .result .end + c .before .before .before .before .before .before .before .before .before .before .before .before .before .gap-one .result)
+    (last-end t m p (eqb p (a .start)) y f (x .result) (x .ensures)) (ap (λ (n : ℕ). x .result .end + n) (c .before .before .before .before .before .before .before .before .before .before .before .before .before .gap-one .ensures ∙ last-gap t m p (eqb p (a .start)) y f (x .result) (x .ensures))) (omega (arith, last-inside t m p (eqb p (a .start)) y f (x .result) (x .ensures)))
+    (omega (arith, room .0, c .before .before .before .before .before .before .before .before .before .before .before .before .sector-size .ensures, u .cells-length)))
+    (room .1)
     (kept-bytes end t m _ _ (wrote .last .1 .1 .0) (k .1) bytes same (wrote .ensures .0))
     (kept-marks end t m _ _ (wrote .last .1 .1 .1 .0) (k .1) bytes same (wrote .ensures .1))
+
+returns-2 : tie.Need-returns-2
+returns-2 c =
+    let a = c .before .before .before .before .before .before .before .before .before .before .before .before .before .before .before .args in
+    let t = a .track .now in
+    let m = a .marks .now in
+    let r = c .before .before .before .before .before .before .before .before .before .before .before .before .before .before .before .pre .0 .flagged .readable in
+    let z = all-sectors t m (a .start) r in
+    let last = c .before .before .before .before .before .before .before .before .last-of in
+    let p = last .result .place in
+    let y = lastOf (z .x) (z .xs) in
+    let f : SectorsFrom t m p (eqb p (a .start)) (lastOf (z .x) (z .xs) ∷ []) = last .ensures (z .x) (z .xs) (z .steps) .0 in
+    let x = c .before .before .before .before .before .before .before .sector-at in
+    let judged = c .before .before .judge-room in
+    let room = room-short (judged .result .number) (judged .result .place) (x .result .end + c .before .before .before .before .gap-one .result + c .before .before .before .sector-size .result) (length t) (judged .ensures) (c .if1 .left) in
+    after-refused _ _ _ (a .out .now) (a .out-marks .now)
+    (add-short t m (a .start) r (a .b7) (a .s) (a .key .now) (a .body .now) (c .before .before .before .before .before .before .before .before .before .before .before .before .before .before .before .pre .1 .0 .0) (c .before .before .before .before .before .before .before .before .before .before .before .before .before .before .before .pre .1 .0 .1) (c .before .before .before .before .before .before .before .before .before .before .before .before .before .before .before .pre .0 .absent) (z .x) (z .xs) (z .all) (x .result .end) (x .result .end + c .before .before .before .before .gap-one .result)
+    (last-end t m p (eqb p (a .start)) y f (x .result) (x .ensures)) (ap (λ (n : ℕ). x .result .end + n) (c .before .before .before .before .gap-one .ensures ∙ last-gap t m p (eqb p (a .start)) y f (x .result) (x .ensures))) (omega (arith, last-inside t m p (eqb p (a .start)) y f (x .result) (x .ensures)))
+    (omega (arith, room .0, c .before .before .before .sector-size .ensures, readable-left t m (a .start) r .cells-length)))
+    (room .1)
 
 pub add-behind-spec : {M : Type 1} → statement M
 add-behind-spec =
@@ -230,14 +217,12 @@ add-behind-spec =
     cast-sector-size
     cast-sector-size-2
     sector-size-requires
-    add-if1
-    add-if1-2
-    room-missing-requires
-    returns
+    add-judge-room
+    judge-room-requires
     address-at-requires
     added-flag-requires
     write-added-requires
-    done-requires
     same-length
     same-length-2
+    returns
     returns-2)

@@ -13,7 +13,7 @@ use Rattle.format.specs.Accept.{Placed}
 use Rattle.encode.proofs.Cells.{unmarked-bytes}
 use Rattle.sectors.proofs.From.{SectorsFrom}
 use Rattle.writer.specs.Left.{correctedEnd, correctedCells}
-use Rattle.writer.proofs.Outcome.{after-refused, after-good}
+use Rattle.writer.proofs.Outcome.{after-refused, after-good, room-done, room-short}
 use Rattle.writer.proofs.Filled.{content-bounds}
 use Rattle.writer.proofs.Corrected.{readable-steps, readable-left, readable-lengths, found-left, found-at, found-none, kept-bytes, kept-marks, correct-wanted, correct-missing, correct-short, correct-done}
 use Rattle.writer.proofs.correcting.correct_on.Statement.{statement}
@@ -61,47 +61,28 @@ corrected-end-requires c κs =
       (c .if2 .left, content-bounds (a .key .now) (a .body .now) (sym (c .before .before .before .content-right .ensures) ∙ not-false _ (c .before .before .if1 .left))),
     )
 
-sub-if3 : tie.Need-sub-if3
-sub-if3 c = let a = c .before .before .before .before .before .before .before .before .before .before .before .args in omega (arith, readable-lengths (a .track .now) (a .marks .now) (a .start) (c .before .before .before .before .before .before .before .before .before .before .before .pre .0))
-
-room-missing-requires : tie.Need-room-missing-requires
-room-missing-requires c κs = search needs
-
-returns-3 : tie.Need-returns-3
-returns-3 c =
-    let a = c .before .before .before .before .before .before .before .before .before .before .before .before .before .args in
-    let t = a .track .now in
-    let m = a .marks .now in
-    let r = c .before .before .before .before .before .before .before .before .before .before .before .before .before .pre .0 in
-    let u = readable-left t m (a .start) r in
-    let q = c .before .before .before .before .place-of .result in
-    let z = found-at t m (a .start) q (a .s) r (c .before .before .before .before .place-of .ensures (r .accepted .sectors) (readable-steps t m (a .start) r)) (c .before .before .before .if2 .left) in
-    let end : c .before .before .corrected-end .result ≡ correctedEnd q (a .key .now) (a .body .now) (z .sector) (z .later) = c .before .before .corrected-end .ensures (z .sector) (z .later) (z .steps) in
-    after-refused _ _ _ (a .out .now) (a .out-marks .now)
-    (correct-short t m (a .start) r (a .s) (a .key .now) (a .body .now) (sym (c .before .before .before .before .before .before .content-right .ensures) ∙ not-false _ (c .before .before .before .before .before .if1 .left))
-    (z .sector) (z .later) (z .split) q (z .place-is) (omega (arith, c .before .before .before .if2 .left, u .cells-length)) (omega (arith, c .before .if3 .taken, end, u .cells-length)))
-    (c .room-missing .ensures)
+judge-room-requires : tie.Need-judge-room-requires
+judge-room-requires c κs = let a = c .before .before .before .before .before .before .before .before .before .before .before .args in omega (arith, readable-lengths (a .track .now) (a .marks .now) (a .start) (c .before .before .before .before .before .before .before .before .before .before .before .pre .0))
 
 write-corrected-requires : tie.Need-write-corrected-requires
 write-corrected-requires c κs =
-    let a = c .before .before .before .before .before .before .before .before .before .before .before .before .before .before .args in
+    let a = c .before .before .before .before .before .before .before .before .before .before .before .before .before .before .before .before .args in
     let t = a .track .now in
     let m = a .marks .now in
-    let r = c .before .before .before .before .before .before .before .before .before .before .before .before .before .before .pre .0 in
+    let r = c .before .before .before .before .before .before .before .before .before .before .before .before .before .before .before .before .pre .0 in
     let u = readable-left t m (a .start) r in
-    let q = c .before .before .before .before .before .place-of .result in
+    let q = c .before .before .before .before .before .before .before .place-of .result in
     let k = readable-lengths t m (a .start) r in
+    let judged = c .before .before .before .before .judge-room in
+    let fits = room-done (judged .result .number) (judged .result .place) (c .before .before .before .before .before .corrected-end .result) (length t) (judged .ensures) (c .before .before .if3 .taken) in
     let room : (x : Placed) (xs : List Placed) → SectorsFrom t m q (eqb q (a .start)) (x ∷ xs) → correctedEnd q (a .key .now) (a .body .now) x xs ≤ length t =
-    λ x xs f. omega (arith, c .before .before .before .corrected-end .ensures x xs f, c .before .before .if3 .left, k .0) in (
-      found-left t m (a .start) q (a .s) r (c .before .before .before .before .before .place-of .ensures (r .accepted .sectors) (readable-steps t m (a .start) r)),
+    λ x xs f. omega (arith, c .before .before .before .before .before .corrected-end .ensures x xs f, fits .0) in (
+      found-left t m (a .start) q (a .s) r (c .before .before .before .before .before .before .before .place-of .ensures (r .accepted .sectors) (readable-steps t m (a .start) r)),
       (
-        (c .before .before .before .before .if2 .left, room),
-        (content-bounds (a .key .now) (a .body .now) (sym (c .before .before .before .before .before .before .before .content-right .ensures) ∙ not-false _ (c .before .before .before .before .before .before .if1 .left)), (k .1, c .before .before .before .before .before .before .before .before .before .before .before .before .before .before .pre .1 .0, c .before .before .before .before .before .before .before .before .before .before .before .before .before .before .pre .1 .1)),
+        (c .before .before .before .before .before .before .if2 .left, room),
+        (content-bounds (a .key .now) (a .body .now) (sym (c .before .before .before .before .before .before .before .before .before .content-right .ensures) ∙ not-false _ (c .before .before .before .before .before .before .before .before .if1 .left)), (k .1, c .before .before .before .before .before .before .before .before .before .before .before .before .before .before .before .before .pre .1 .0, c .before .before .before .before .before .before .before .before .before .before .before .before .before .before .before .before .pre .1 .1)),
       ),
     )
-
-done-requires : tie.Need-done-requires
-done-requires c κs = search needs
 
 same-length : tie.Need-same-length
 same-length c = search needs
@@ -109,26 +90,45 @@ same-length c = search needs
 same-length-2 : tie.Need-same-length-2
 same-length-2 c = search needs
 
-returns-4 : tie.Need-returns-4
-returns-4 c =
-    let a = c .before .before .before .before .before .before .before .before .before .before .before .before .before .before .before .before .before .before .before .before .args in
+returns-3 : tie.Need-returns-3
+returns-3 c =
+    let a = c .before .before .before .before .before .before .before .before .before .before .before .before .before .before .before .before .before .before .before .before .before .args in
     let t = a .track .now in
     let m = a .marks .now in
-    let r = c .before .before .before .before .before .before .before .before .before .before .before .before .before .before .before .before .before .before .before .before .pre .0 in
+    let r = c .before .before .before .before .before .before .before .before .before .before .before .before .before .before .before .before .before .before .before .before .before .pre .0 in
     let u = readable-left t m (a .start) r in
-    let q = c .before .before .before .before .before .before .before .before .before .before .before .place-of .result in
+    let q = c .before .before .before .before .before .before .before .before .before .before .before .before .place-of .result in
     let k = readable-lengths t m (a .start) r in
-    let wrote = c .before .before .before .before .before .write-corrected in
-    let z = found-at t m (a .start) q (a .s) r (c .before .before .before .before .before .before .before .before .before .before .before .place-of .ensures (r .accepted .sectors) (readable-steps t m (a .start) r)) (c .before .before .before .before .before .before .before .before .before .before .if2 .left) in
-    let end : c .before .before .before .before .before .before .before .before .before .corrected-end .result ≡ correctedEnd q (a .key .now) (a .body .now) (z .sector) (z .later) = c .before .before .before .before .before .before .before .before .before .corrected-end .ensures (z .sector) (z .later) (z .steps) in
+    let wrote = c .before .before .before .before .write-corrected in
+    let z = found-at t m (a .start) q (a .s) r (c .before .before .before .before .before .before .before .before .before .before .before .before .place-of .ensures (r .accepted .sectors) (readable-steps t m (a .start) r)) (c .before .before .before .before .before .before .before .before .before .before .before .if2 .left) in
+    let end : c .before .before .before .before .before .before .before .before .before .before .corrected-end .result ≡ correctedEnd q (a .key .now) (a .body .now) (z .sector) (z .later) = c .before .before .before .before .before .before .before .before .before .before .corrected-end .ensures (z .sector) (z .later) (z .steps) in
+    let judged = c .before .before .before .before .before .before .before .before .before .judge-room in
+    let fits = room-done (judged .result .number) (judged .result .place) (c .before .before .before .before .before .before .before .before .before .before .corrected-end .result) (length t) (judged .ensures) (c .before .before .before .before .before .before .before .if3 .taken) in
     let W : ℕ → List ℕ = λ l. correctedCells l q (a .key .now) (a .body .now) (z .sector) (z .later) in
-    let bytes : unmarked t ≡ true = unmarked-bytes t (λ i. omega (arith, c .before .before .before .before .before .before .before .before .before .before .before .before .before .before .before .before .before .before .before .shared-slice-known .given i)) in
+    let bytes : unmarked t ≡ true = unmarked-bytes t (λ i. omega (arith, c .before .before .before .before .before .before .before .before .before .before .before .before .before .before .before .before .before .before .before .before .shared-slice-known .given i)) in
     after-good _ _ (take q (cells t m) ++ W (length (cells t m))) (a .out .now) (a .out-marks .now) (wrote .last .1 .1 .0) (wrote .last .1 .1 .1 .0)
-    (correct-done t m (a .start) r (a .s) (a .key .now) (a .body .now) (sym (c .before .before .before .before .before .before .before .before .before .before .before .before .before .content-right .ensures) ∙ not-false _ (c .before .before .before .before .before .before .before .before .before .before .before .before .if1 .left))
-    (z .sector) (z .later) (z .split) q (z .place-is) (omega (arith, c .before .before .before .before .before .before .before .before .before .before .if2 .left, u .cells-length)) (omega (arith, c .before .before .before .before .before .before .before .before .if3 .left, end, u .cells-length, k .0)))
-    (c .done .ensures)
+    (correct-done t m (a .start) r (a .s) (a .key .now) (a .body .now) (sym (c .before .before .before .before .before .before .before .before .before .before .before .before .before .before .content-right .ensures) ∙ not-false _ (c .before .before .before .before .before .before .before .before .before .before .before .before .before .if1 .left))
+    (z .sector) (z .later) (z .split) q (z .place-is) (omega (arith, c .before .before .before .before .before .before .before .before .before .before .before .if2 .left, u .cells-length)) (omega (arith, fits .0, end, u .cells-length)))
+    (fits .1)
     (kept-bytes q t m (W (length t)) (W (length (cells t m))) (wrote .last .1 .1 .0) (k .1) bytes (ap W (sym (u .cells-length))) (wrote .ensures .0 (z .sector) (z .later) (z .steps)))
     (kept-marks q t m (W (length t)) (W (length (cells t m))) (wrote .last .1 .1 .1 .0) (k .1) bytes (ap W (sym (u .cells-length))) (wrote .ensures .1 (z .sector) (z .later) (z .steps)))
+
+returns-4 : tie.Need-returns-4
+returns-4 c =
+    let a = c .before .before .before .before .before .before .before .before .before .before .before .before .before .before .args in
+    let t = a .track .now in
+    let m = a .marks .now in
+    let r = c .before .before .before .before .before .before .before .before .before .before .before .before .before .before .pre .0 in
+    let u = readable-left t m (a .start) r in
+    let q = c .before .before .before .before .before .place-of .result in
+    let z = found-at t m (a .start) q (a .s) r (c .before .before .before .before .before .place-of .ensures (r .accepted .sectors) (readable-steps t m (a .start) r)) (c .before .before .before .before .if2 .left) in
+    let end : c .before .before .before .corrected-end .result ≡ correctedEnd q (a .key .now) (a .body .now) (z .sector) (z .later) = c .before .before .before .corrected-end .ensures (z .sector) (z .later) (z .steps) in
+    let judged = c .before .before .judge-room in
+    let fits = room-short (judged .result .number) (judged .result .place) (c .before .before .before .corrected-end .result) (length t) (judged .ensures) (c .if3 .left) in
+    after-refused _ _ _ (a .out .now) (a .out-marks .now)
+    (correct-short t m (a .start) r (a .s) (a .key .now) (a .body .now) (sym (c .before .before .before .before .before .before .before .content-right .ensures) ∙ not-false _ (c .before .before .before .before .before .before .if1 .left))
+    (z .sector) (z .later) (z .split) q (z .place-is) (omega (arith, c .before .before .before .before .if2 .left, u .cells-length)) (omega (arith, fits .0, end, u .cells-length)))
+    (fits .1)
 
 pub correct-on-spec : {M : Type 1} → statement M
 correct-on-spec =
@@ -141,11 +141,9 @@ correct-on-spec =
     sector-missing-requires
     returns-2
     corrected-end-requires
-    sub-if3
-    room-missing-requires
-    returns-3
+    judge-room-requires
     write-corrected-requires
-    done-requires
     same-length
     same-length-2
+    returns-3
     returns-4)
