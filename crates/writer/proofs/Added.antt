@@ -30,9 +30,9 @@ use Rattle.sectors.specs.declared.SectorAt.{SectorAt}
 use Rattle.sectors.specs.Stepped.{Stepped, steppedAt, addressAt, asStepped}
 use Rattle.sectors.proofs.From.{SectorsFrom, accepted-start}
 use Rattle.writer.specs.After.{filledSpan}
-use Rattle.writer.specs.Left.{Readable, Left}
+use Rattle.writer.specs.Remaining.{Readable, Remaining}
 use Rattle.writer.proofs.Filled.{bytes-gap, marks-gap, filled-length, laid-to-end, take-laid, take-over}
-use Rattle.writer.proofs.Corrected.{FirstLeft, first-left, some-left, readable-steps, readable-left}
+use Rattle.writer.proofs.Corrected.{FirstRemaining, first-remaining, some-remaining, readable-steps, readable-remaining}
 
 -- The sectors x and `later` from place p on: the last of them is `goal`, and a sector behind it stands in position n, one behind x in position i.
 pub record Passing (t m : List ℕ) (start p i : ℕ) (goal : Placed) (n : ℕ) : Type 0 where
@@ -87,11 +87,11 @@ more-inside : (t m : List ℕ) (q : ℕ) (later : List Placed) → SectorsFrom t
 more-inside t m q [] f o = false-true (sym o)
 more-inside t m q (y ∷ ys) f o = omega (arith, f .0 .span-least, f .0 .span-inside)
 
-module _ (t m : List ℕ) (start p n : ℕ) (u : Left t m start true) (low : start < length t) (i : Passed t m start p n) (s : SectorAt)
+module _ (t m : List ℕ) (start p n : ℕ) (u : Remaining t m start true) (low : start < length t) (i : Passed t m start p n) (s : SectorAt)
     (e : asStepped s ≡ steppedAt (eqb p start) p (cells t m)) where
   -- The way that the requirement shows.
-  abbrev head : FirstLeft t m start true
-  head = first-left t m start true u low
+  abbrev head : FirstRemaining t m start true
+  head = first-remaining t m start true u low
 
   abbrev here : Passing t m start p n (lastOf (head .sector) (head .later)) (suc (length (head .later)))
   here = i .3 (head .sector) (head .later) (head .steps)
@@ -281,6 +281,6 @@ readable-low t m start r =
 pub all-sectors : (t m : List ℕ) (start : ℕ) (r : Readable t m start) → AllSectors t m start r
 all-sectors t m start r =
     let f = readable-steps t m start r in
-    let u = readable-left t m start r in
-    let z = some-left t m start true (r .accepted .sectors) f (omega (arith, readable-low t m start r, u .cells-length)) in
+    let u = readable-remaining t m start r in
+    let z = some-remaining t m start true (r .accepted .sectors) f (omega (arith, readable-low t m start r, u .cells-length)) in
     record { x = z .0; xs = z .1 .0; all = z .1 .1; steps = subst (SectorsFrom t m start true) (z .1 .1) f }

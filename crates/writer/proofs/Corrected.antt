@@ -32,7 +32,7 @@ use Rattle.sectors.specs.declared.SectorAt.{SectorAt}
 use Rattle.sectors.specs.Stepped.{Stepped, steppedAt, addressAt, asStepped}
 use Rattle.sectors.proofs.From.{SectorsFrom, step-at, steps-end, accepted-start}
 use Rattle.writer.specs.After.{filledSpan}
-use Rattle.writer.specs.Left.{Readable, Left, RoomFor, laterCells, farthest, correctedEnd, correctedCells}
+use Rattle.writer.specs.Remaining.{Readable, Remaining, RoomFor, laterCells, farthest, correctedEnd, correctedCells}
 use Rattle.writer.proofs.Filled.{over-front}
 use Rattle.writer.proofs.Farthest.{farthest-from}
 use Rattle.writer.proofs.Later.{spanEnd, room-split, none-sectors, bytes-more, marks-more}
@@ -42,9 +42,9 @@ pub readable-steps : (t m : List ℕ) (start : ℕ) (r : Readable t m start) →
 readable-steps t m start r =
     subst (λ (p : ℕ). SectorsFrom t m p true (r .accepted .sectors)) (sym (r .starts)) (accepted-start t m (r .accepted) (r .is-accepted) .steps)
 
--- They are what is left from its sector 0 on.
-pub readable-left : (t m : List ℕ) (start : ℕ) → Readable t m start → Left t m start true
-readable-left t m start r =
+-- They are what remains from its sector 0 on.
+pub readable-remaining : (t m : List ℕ) (start : ℕ) → Readable t m start → Remaining t m start true
+readable-remaining t m start r =
     let z = accepted-start t m (r .accepted) (r .is-accepted) in
     record {
       sectors = r .accepted .sectors;
@@ -58,33 +58,33 @@ pub readable-lengths : (t m : List ℕ) (start : ℕ) → Readable t m start →
 readable-lengths t m start r = let z = accepted-start t m (r .accepted) (r .is-accepted) in (z .length-least, z .marks-length)
 
 -- Before the end there is a sector.
-pub some-left : (t m : List ℕ) (p : ℕ) (first : Bool) (xs : List Placed) → SectorsFrom t m p first xs → p < length (cells t m)
+pub some-remaining : (t m : List ℕ) (p : ℕ) (first : Bool) (xs : List Placed) → SectorsFrom t m p first xs → p < length (cells t m)
     → (x : Placed) × ((later : List Placed) × (xs ≡ x ∷ later))
-some-left t m p first [] e l = absurd (omega arith)
-some-left t m p first (x ∷ xs) e l = (x, (xs, refl))
+some-remaining t m p first [] e l = absurd (omega arith)
+some-remaining t m p first (x ∷ xs) e l = (x, (xs, refl))
 
--- The first of the sectors that are left before the end.
-pub record FirstLeft (t m : List ℕ) (q : ℕ) (first : Bool) : Type 0 where
+-- The first of the sectors that remain before the end.
+pub record FirstRemaining (t m : List ℕ) (q : ℕ) (first : Bool) : Type 0 where
   pub sector : Placed
   pub later : List Placed
   pub steps : SectorsFrom t m q first (sector ∷ later)
 
 -- Before the end there is one.
-pub first-left : (t m : List ℕ) (q : ℕ) (first : Bool) → Left t m q first → q < length t → FirstLeft t m q first
-first-left t m q first u l =
-    let z = some-left t m q first (u .sectors) (u .steps) (omega (arith, u .cells-length)) in
+pub first-remaining : (t m : List ℕ) (q : ℕ) (first : Bool) → Remaining t m q first → q < length t → FirstRemaining t m q first
+first-remaining t m q first u l =
+    let z = some-remaining t m q first (u .sectors) (u .steps) (omega (arith, u .cells-length)) in
     record { sector = z .0; later = z .1 .0; steps = subst (SectorsFrom t m q first) (z .1 .1) (u .steps) }
 
--- The sectors that are left behind it.
-pub later-left : (t m : List ℕ) (q : ℕ) (first : Bool) → Left t m q first → q < length t → (s : SectorAt) → asStepped s ≡ steppedAt first q (cells t m) → Left t m (s .next) false
-later-left t m q first u l s e =
+-- The sectors that remain behind it.
+pub later-remaining : (t m : List ℕ) (q : ℕ) (first : Bool) → Remaining t m q first → q < length t → (s : SectorAt) → asStepped s ≡ steppedAt first q (cells t m) → Remaining t m (s .next) false
+later-remaining t m q first u l s e =
     let v = step-at t m q first (u .sectors) s (u .steps) (omega (arith, u .cells-length)) e in
     record { sectors = v .later; steps = v .rest; cells-length = u .cells-length; length-most = u .length-most }
 
 -- The sectors from the found one on.
-pub found-left : (t m : List ℕ) (start q : ℕ) (s : ℕ) (r : Readable t m start) → SectorsFrom t m q (eqb q start) (fromNumber s (r .accepted .sectors)) → Left t m q (eqb q start)
-found-left t m start q s r f =
-    let u = readable-left t m start r in
+pub found-remaining : (t m : List ℕ) (start q : ℕ) (s : ℕ) (r : Readable t m start) → SectorsFrom t m q (eqb q start) (fromNumber s (r .accepted .sectors)) → Remaining t m q (eqb q start)
+found-remaining t m start q s r f =
+    let u = readable-remaining t m start r in
     record { sectors = fromNumber s (r .accepted .sectors); steps = f; cells-length = u .cells-length; length-most = u .length-most }
 
 -- The found one itself.
@@ -98,15 +98,15 @@ pub record FoundAt (t m : List ℕ) (start q s : ℕ) (r : Readable t m start) :
 -- It is found where the search ends before index.
 pub found-at : (t m : List ℕ) (start q s : ℕ) (r : Readable t m start) → SectorsFrom t m q (eqb q start) (fromNumber s (r .accepted .sectors)) → q < length t → FoundAt t m start q s r
 found-at t m start q s r f l =
-    let u = readable-left t m start r in
-    let z = some-left t m q (eqb q start) (fromNumber s (r .accepted .sectors)) f (omega (arith, u .cells-length)) in
+    let u = readable-remaining t m start r in
+    let z = some-remaining t m q (eqb q start) (fromNumber s (r .accepted .sectors)) f (omega (arith, u .cells-length)) in
     let g : SectorsFrom t m q (eqb q start) (z .0 ∷ z .1 .0) = subst (SectorsFrom t m q (eqb q start)) (z .1 .1) f in
     record { sector = z .0; later = z .1 .0; split = z .1 .1; steps = g; place-is = g .0 .place-is }
 
 -- None is found where the search ends at index.
 pub found-none : (t m : List ℕ) (start q s : ℕ) (r : Readable t m start) → SectorsFrom t m q (eqb q start) (fromNumber s (r .accepted .sectors)) → length t ≤ q → fromNumber s (r .accepted .sectors) ≡ []
 found-none t m start q s r f l =
-    let u = readable-left t m start r in
+    let u = readable-remaining t m start r in
     steps-end t m q (eqb q start) (fromNumber s (r .accepted .sectors)) f (omega (arith, u .cells-length))
 
 -- The bytes of the first n cells of a track.

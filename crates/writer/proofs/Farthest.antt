@@ -18,7 +18,7 @@ use Rattle.sectors.specs.declared.SectorAt.{SectorAt}
 use Rattle.sectors.specs.Stepped.{steppedAt, asStepped}
 use Rattle.sectors.proofs.Rest.{opening-least}
 use Rattle.sectors.proofs.From.{SectorsFrom, Step, step-at, steps-end}
-use Rattle.writer.specs.Left.{Left, farthest}
+use Rattle.writer.specs.Remaining.{Remaining, farthest}
 
 -- A sector's block ends where its written form does, and the others follow its gap.
 pub farthest-from : (q : ℕ) (s : Sector) (xs : List Placed)
@@ -77,9 +77,9 @@ module _ (t m : List ℕ) (p : ℕ) (first : Bool) (xs : List Placed) (s : Secto
 
 -- The sectors from place p on, with which the end is the goal.
 pub record Ahead (t m : List ℕ) (p end gap goal : ℕ) : Type 0 where
-  pub left : List Placed
-  pub steps : SectorsFrom t m p false left
-  pub same : farthest end gap left ≡ goal
+  pub remaining : List Placed
+  pub steps : SectorsFrom t m p false remaining
+  pub same : farthest end gap remaining ≡ goal
 
 -- The sum has come to place p.
 abbrev pub Summing : List ℕ → List ℕ → ℕ → ℕ → ℕ → ℕ → ℕ → ℕ → Type 0
@@ -88,23 +88,23 @@ Summing t m p₀ end₀ gap₀ p end gap =
 
 -- It starts so.
 pub sum-start : (t m : List ℕ) (p end gap : ℕ) → end + gap ≤ 100000 → Summing t m p end gap p end gap
-sum-start t m p end gap h = (omega arith, λ all f. record { left = all; steps = f; same = refl })
+sum-start t m p end gap h = (omega arith, λ all f. record { remaining = all; steps = f; same = refl })
 
-module _ (t m : List ℕ) (p₀ end₀ gap₀ p end gap : ℕ) (u : Left t m p₀ false) (i : Summing t m p₀ end₀ gap₀ p end gap) where
+module _ (t m : List ℕ) (p₀ end₀ gap₀ p end gap : ℕ) (u : Remaining t m p₀ false) (i : Summing t m p₀ end₀ gap₀ p end gap) where
   -- At index it is done.
   pub sum-end : length t ≤ p → (all : List Placed) → SectorsFrom t m p₀ false all → end ≡ farthest end₀ gap₀ all
   sum-end l all f =
       let r = i .1 all f in
-      let z : r .left ≡ [] = steps-end t m p false (r .left) (r .steps) (omega (arith, u .cells-length)) in
-      sym (farthest-none end gap (r .left) z) ∙ r .same
+      let z : r .remaining ≡ [] = steps-end t m p false (r .remaining) (r .steps) (omega (arith, u .cells-length)) in
+      sym (farthest-none end gap (r .remaining) z) ∙ r .same
 
   module _ (l : p < length t) (x : SectorAt) (e : asStepped x ≡ steppedAt false p (cells t m)) where
     -- The step over the sector at p.
-    pub sum-step : (all : List Placed) (f : SectorsFrom t m p₀ false all) → Step t m p false (i .1 all f .left) x
-    sum-step all f = let r = i .1 all f in step-at t m p false (r .left) x (r .steps) (omega (arith, u .cells-length)) e
+    pub sum-step : (all : List Placed) (f : SectorsFrom t m p₀ false all) → Step t m p false (i .1 all f .remaining) x
+    sum-step all f = let r = i .1 all f in step-at t m p false (r .remaining) x (r .steps) (omega (arith, u .cells-length)) e
 
     -- The step that the requirement shows.
-    abbrev pub sumStep : Step t m p false (i .1 (u .sectors) (u .steps) .left) x
+    abbrev pub sumStep : Step t m p false (i .1 (u .sectors) (u .steps) .remaining) x
     sumStep = sum-step (u .sectors) (u .steps)
 
     -- Each step goes on, and not beyond index.
@@ -113,11 +113,11 @@ module _ (t m : List ℕ) (p₀ end₀ gap₀ p end gap : ℕ) (u : Left t m p�
 
     -- KL and DL of the sector at p fit their bytes.
     pub sum-lengths : (x .«key_length» ≤ 255) × (x .«data_length» ≤ 65535)
-    sum-lengths = lengths-stepped t m p false (i .1 (u .sectors) (u .steps) .left) x sumStep
+    sum-lengths = lengths-stepped t m p false (i .1 (u .sectors) (u .steps) .remaining) x sumStep
 
     -- The sum stays far below what a number can hold.
     pub sum-bound : end + gap + sectorSize false (x .«key_length») (x .«data_length») + gapOne (x .«key_length») (x .«data_length») ≤ 100000 + 3 * x .next
-    sum-bound = omega (arith, i .0, grows-stepped t m p false (i .1 (u .sectors) (u .steps) .left) x sumStep)
+    sum-bound = omega (arith, i .0, grows-stepped t m p false (i .1 (u .sectors) (u .steps) .remaining) x sumStep)
 
     -- The sum with the sector at p.
     pub sum-next : (n g : ℕ) → n ≡ sectorSize false (x .«key_length») (x .«data_length») → g ≡ gapOne (x .«key_length») (x .«data_length»)
@@ -127,13 +127,13 @@ module _ (t m : List ℕ) (p₀ end₀ gap₀ p end gap : ℕ) (u : Left t m p�
       λ all f.
           let r = i .1 all f in
           let v = sum-step all f in
-          let size : n ≡ length (writtenSector (v .x .sector)) = en ∙ sym (size-stepped t m p false (r .left) x v) in
-          let gaps : g ≡ gapAfter gapOne (v .x .sector) = eg ∙ sym (gap-stepped t m p false (r .left) x v) in
+          let size : n ≡ length (writtenSector (v .x .sector)) = en ∙ sym (size-stepped t m p false (r .remaining) x v) in
+          let gaps : g ≡ gapAfter gapOne (v .x .sector) = eg ∙ sym (gap-stepped t m p false (r .remaining) x v) in
           record {
-            left = v .later;
+            remaining = v .later;
             steps = v .rest;
             same =
                 ap₂ (λ (k h : ℕ). farthest (end + gap + k) h (v .later)) size gaps
-                ∙ sym (farthest-step end gap (r .left) (v .x) (v .later) (v .split)) ∙ r .same;
+                ∙ sym (farthest-step end gap (r .remaining) (v .x) (v .later) (v .split)) ∙ r .same;
           },
     )

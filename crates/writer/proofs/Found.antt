@@ -13,7 +13,7 @@ use Rattle.format.specs.Add.{fromNumber}
 use Rattle.sectors.specs.declared.SectorAt.{SectorAt}
 use Rattle.sectors.specs.Stepped.{steppedAt, asStepped}
 use Rattle.sectors.proofs.From.{SectorsFrom, Step, step-at, steps-end}
-use Rattle.writer.specs.Left.{Left}
+use Rattle.writer.specs.Remaining.{Remaining}
 
 -- The search starts at a sector that carries S,
 pub found-here : (s : ℕ) (xs : List Placed) (x : Placed) (later : List Placed) → xs ≡ x ∷ later → x .sector .number ≡ s → fromNumber s xs ≡ xs
@@ -27,9 +27,9 @@ found-later s xs x later e q = rw (e, ne-eqb (x .sector .number) s q)
 
 -- The sectors from place p on, of which the search of `all` goes on.
 pub record Reached (t m : List ℕ) (start s p : ℕ) (all : List Placed) : Type 0 where
-  pub left : List Placed
-  pub steps : SectorsFrom t m p (eqb p start) left
-  pub same : fromNumber s all ≡ fromNumber s left
+  pub remaining : List Placed
+  pub steps : SectorsFrom t m p (eqb p start) remaining
+  pub same : fromNumber s all ≡ fromNumber s remaining
 
 -- The search has come to place p.
 abbrev pub Searching : List ℕ → List ℕ → ℕ → ℕ → ℕ → Type 0
@@ -39,22 +39,22 @@ Searching t m start s p = (start ≤ p) × ((all : List Placed) → SectorsFrom 
 pub search-start : (t m : List ℕ) (start s : ℕ) → Searching t m start s start
 search-start t m start s = (
   omega arith,
-  λ all f. record { left = all; steps = subst (λ (b : Bool). SectorsFrom t m start b all) (sym (eq-eqb start start refl)) f; same = refl },
+  λ all f. record { remaining = all; steps = subst (λ (b : Bool). SectorsFrom t m start b all) (sym (eq-eqb start start refl)) f; same = refl },
 )
 
-module _ (t m : List ℕ) (start s p : ℕ) (u : Left t m start true) (i : Searching t m start s p) where
+module _ (t m : List ℕ) (start s p : ℕ) (u : Remaining t m start true) (i : Searching t m start s p) where
   -- The end is reached with no sector left.
   pub search-end : length t ≤ p → (all : List Placed) → SectorsFrom t m start true all → SectorsFrom t m p (eqb p start) (fromNumber s all)
   unfolding fromNumber
   search-end l all f =
       let r = i .1 all f in
-      let z : r .left ≡ [] = steps-end t m p (eqb p start) (r .left) (r .steps) (omega (arith, u .cells-length)) in
-      let e : fromNumber s all ≡ r .left = r .same ∙ ap (fromNumber s) z ∙ sym z in
+      let z : r .remaining ≡ [] = steps-end t m p (eqb p start) (r .remaining) (r .steps) (omega (arith, u .cells-length)) in
+      let e : fromNumber s all ≡ r .remaining = r .same ∙ ap (fromNumber s) z ∙ sym z in
       subst (SectorsFrom t m p (eqb p start)) (sym e) (r .steps)
 
   module _ (l : p < length t) (x : SectorAt) (e : asStepped x ≡ steppedAt (eqb p start) p (cells t m)) where
-    step-of : (all : List Placed) (f : SectorsFrom t m start true all) → Step t m p (eqb p start) (i .1 all f .left) x
-    step-of all f = let r = i .1 all f in step-at t m p (eqb p start) (r .left) x (r .steps) (omega (arith, u .cells-length)) e
+    step-of : (all : List Placed) (f : SectorsFrom t m start true all) → Step t m p (eqb p start) (i .1 all f .remaining) x
+    step-of all f = let r = i .1 all f in step-at t m p (eqb p start) (r .remaining) x (r .steps) (omega (arith, u .cells-length)) e
 
     -- Each step goes on, and not beyond index.
     pub search-onward : (p + 49 ≤ x .next) × (x .next ≤ length t)
@@ -67,7 +67,7 @@ module _ (t m : List ℕ) (start s p : ℕ) (u : Left t m start true) (i : Searc
     search-found q all f =
         let r = i .1 all f in
         let v = step-of all f in
-        subst (SectorsFrom t m p (eqb p start)) (sym (r .same ∙ found-here s (r .left) (v .x) (v .later) (v .split) (sym (v .number-is) ∙ q))) (r .steps)
+        subst (SectorsFrom t m p (eqb p start)) (sym (r .same ∙ found-here s (r .remaining) (v .x) (v .later) (v .split) (sym (v .number-is) ∙ q))) (r .steps)
 
     -- It does not.
     pub search-next : (x .number ≡ s → ⊥) → Searching t m start s (x .next)
@@ -79,8 +79,8 @@ module _ (t m : List ℕ) (start s p : ℕ) (u : Left t m start true) (i : Searc
               let v = step-of all f in
               let first : eqb (x .next) start ≡ false = ne-eqb (x .next) start (λ q. omega (arith, i .0, o .0, q)) in
               record {
-                left = v .later;
+                remaining = v .later;
                 steps = subst (λ (b : Bool). SectorsFrom t m (x .next) b (v .later)) (sym first) (v .rest);
-                same = r .same ∙ found-later s (r .left) (v .x) (v .later) (v .split) (λ q. n (v .number-is ∙ q));
+                same = r .same ∙ found-later s (r .remaining) (v .x) (v .later) (v .split) (λ q. n (v .number-is ∙ q));
               },
         )

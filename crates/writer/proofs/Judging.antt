@@ -17,7 +17,7 @@ use Rattle.format.specs.Correct.{correctCells, correct}
 use Rattle.format.proofs.Judged.{and-both, good-inj, refused-good, then-good}
 use Rattle.sector.specs.declared.fields.Home.{Home as HomeCode}
 use Rattle.sector.specs.As.{asHome}
-use Rattle.writer.specs.Left.{Readable, ReadableFlag}
+use Rattle.writer.specs.Remaining.{Readable, ReadableFlag}
 
 -- A track whose home is given is accepted.
 pub judged-readable : (t m : List ℕ) (h : HomeCode) → _≡_ {A = Judged Home} (good (asHome h)) (then (accept t m) (λ a. good (a .home))) → Readable t m (h .place + 25)

@@ -23,7 +23,7 @@ use Rattle.sectors.specs.declared.SectorAt.{SectorAt}
 use Rattle.sectors.specs.Stepped.{steppedAt, addressAt, asStepped}
 use Rattle.sectors.proofs.From.{SectorsFrom, Step, step-at, steps-end}
 use Rattle.writer.specs.After.{filledSpan}
-use Rattle.writer.specs.Left.{LeftRoom, RoomFor, laterCells}
+use Rattle.writer.specs.Remaining.{RemainingRoom, RoomFor, laterCells}
 use Rattle.writer.proofs.Filled.{filled-length, take-laid}
 use Rattle.writer.proofs.Farthest.{size-stepped, gap-stepped, lengths-stepped}
 
@@ -87,11 +87,11 @@ module _ (l at to : ℕ) (s : Sector) (ss : List Sector) (e : to ≡ spanEnd l a
 
 -- The sectors from place p of the old track on are to be written from place `at` of the new one on, whose bytes are F in the end and its marks G.
 pub record Going (t m : List ℕ) (p at : ℕ) (nt nm F G : List ℕ) : Type 0 where
-  pub left : List Placed
-  pub steps : SectorsFrom t m p false left
-  pub room : RoomFor (length t) at left
-  pub bytes : take at nt ++ bytesOf (laterCells (length t - at) left) ≡ F
-  pub marks : take at nm ++ marksOf (laterCells (length t - at) left) ≡ G
+  pub remaining : List Placed
+  pub steps : SectorsFrom t m p false remaining
+  pub room : RoomFor (length t) at remaining
+  pub bytes : take at nt ++ bytesOf (laterCells (length t - at) remaining) ≡ F
+  pub marks : take at nm ++ marksOf (laterCells (length t - at) remaining) ≡ G
 
 -- A written sector is the one that was stepped over.
 pub sector-made : (t m : List ℕ) (p : ℕ) (first : Bool) (xs : List Placed) (s : SectorAt) (v : Step t m p first xs s) (a : AddressCode) (key body : List ℕ)
@@ -111,18 +111,18 @@ sector-made t m p first xs s v a key body e k d =
 -- It starts so, where there is room for the sectors xs.
 pub going-start : (t m : List ℕ) (p at : ℕ) (nt nm : List ℕ) (xs : List Placed) → SectorsFrom t m p false xs → RoomFor (length t) at xs
     → Going t m p at nt nm (take at nt ++ bytesOf (laterCells (length t - at) xs)) (take at nm ++ marksOf (laterCells (length t - at) xs))
-going-start t m p at nt nm xs s r = record { left = xs; steps = s; room = r; bytes = refl; marks = refl }
+going-start t m p at nt nm xs s r = record { remaining = xs; steps = s; room = r; bytes = refl; marks = refl }
 
 module _ (t m : List ℕ) (p at : ℕ) (nt nm F G : List ℕ) (i : Going t m p at nt nm F G) (whole : length (cells t m) ≡ length t) where
   -- The place lies on the new track.
   pub going-within : at ≤ length t
-  going-within = room-within (length t) at (i .left) (i .room)
+  going-within = room-within (length t) at (i .remaining) (i .room)
 
   -- At the end of the old track the new one is whole.
   pub going-end : length t ≤ p → length nt ≡ length t → length nm ≡ length t → (nt ≡ F) × (nm ≡ G)
   unfolding writtenSpans bytesOf marksOf
   going-end l nt-long nm-long =
-      let z : i .left ≡ [] = steps-end t m p false (i .left) (i .steps) (omega (arith, whole)) in
+      let z : i .remaining ≡ [] = steps-end t m p false (i .remaining) (i .steps) (omega (arith, whole)) in
       let end : at ≡ length t = subst (RoomFor (length t) at) z (i .room) in
       let all : (ns : List ℕ) → length ns ≡ length t → take at ns ≡ ns = λ ns k. ap (λ (n : ℕ). take n ns) (end ∙ sym k) ∙ take-length ns in (
         sym (all nt nt-long) ∙ sym (append-nil (take at nt)) ∙ ap (λ (xs : List Placed). take at nt ++ bytesOf (laterCells (length t - at) xs)) (sym z) ∙ i .bytes,
@@ -131,12 +131,12 @@ module _ (t m : List ℕ) (p at : ℕ) (nt nm F G : List ℕ) (i : Going t m p a
 
   module _ (l : p < length t) (x : SectorAt) (e : asStepped x ≡ steppedAt false p (cells t m)) where
     -- The step over the sector at p.
-    pub going-step : Step t m p false (i .left) x
-    going-step = step-at t m p false (i .left) x (i .steps) (omega (arith, whole)) e
+    pub going-step : Step t m p false (i .remaining) x
+    going-step = step-at t m p false (i .remaining) x (i .steps) (omega (arith, whole)) e
 
     -- KL and DL of the sector at p fit their bytes.
     pub going-lengths : (x .«key_length» ≤ 255) × (x .«data_length» ≤ 65535)
-    going-lengths = lengths-stepped t m p false (i .left) x going-step
+    going-lengths = lengths-stepped t m p false (i .remaining) x going-step
 
     -- The key and the data lie on the old track.
     pub going-parts : (x .«key_place» + x .«key_length» ≤ length t) × (x .«data_place» + x .«data_length» ≤ length t)
@@ -152,8 +152,8 @@ module _ (t m : List ℕ) (p at : ℕ) (nt nm F G : List ℕ) (i : Going t m p a
       end-made : to ≡ spanEnd (length t) at (going-step .x .sector) (sectorsOf (going-step .later))
       end-made =
           let v = going-step in
-          let size = size-stepped t m p false (i .left) x v in
-          let gap = gap-stepped t m p false (i .left) x v in
+          let size = size-stepped t m p false (i .remaining) x v in
+          let gap = gap-stepped t m p false (i .remaining) x v in
           f ∙ ap (λ (b : Bool). pick b (length t) (at + sectorSize false (x .«key_length») (x .«data_length») + gapOne (x .«key_length») (x .«data_length»))) (v .last-is ∙ none-sectors (v .later))
           ∙ ap₂ (λ (n g : ℕ). pick (none (sectorsOf (v .later))) (length t) (at + n + g)) (sym size) (sym gap)
 
@@ -164,7 +164,7 @@ module _ (t m : List ℕ) (p at : ℕ) (nt nm F G : List ℕ) (i : Going t m p a
 
       -- There is room for the sector.
       pub going-room : (at + sectorSize false (x .«key_length») (x .«data_length») ≤ to) × (to ≤ length t)
-      going-room = let r = split-room in (omega (arith, r .0, size-stepped t m p false (i .left) x going-step), r .1)
+      going-room = let r = split-room in (omega (arith, r .0, size-stepped t m p false (i .remaining) x going-step), r .1)
 
       -- The sector is written.
       pub going-next : (a : AddressCode) (key body nt' nm' : List ℕ) → asAddress a ≡ addressAt false p (cells t m)
@@ -177,11 +177,11 @@ module _ (t m : List ℕ) (p at : ℕ) (nt nm F G : List ℕ) (i : Going t m p a
           let v = going-step in
           let r = split-room in
           let s : sectorFrom false (x .flag) (a .cylinder) (a .head) (x .number) key body ≡ v .x .sector =
-          sector-made t m p false (i .left) x v a key body ad (k ∙ v .key-bytes) (d ∙ v .data-bytes) in
+          sector-made t m p false (i .remaining) x v a key body ad (k ∙ v .key-bytes) (d ∙ v .data-bytes) in
           let ss : List Sector = sectorsOf (v .later) in
           let within : at ≤ length t = going-within in
           record {
-            left = v .later;
+            remaining = v .later;
             steps = v .rest;
             room = r .2;
             bytes =
@@ -208,9 +208,9 @@ Writing t m p at nt nm p' at' nt' nm' =
     (length nt' ≡ length t) × (length nm' ≡ length t) × ((F G : List ℕ) → Going t m p at nt nm F G → Going t m p' at' nt' nm' F G)
 
 -- What is to be written then.
-pub writing-now : (t m : List ℕ) (p at : ℕ) (nt nm : List ℕ) (p' at' : ℕ) (nt' nm' : List ℕ) (u : LeftRoom t m p at) → Writing t m p at nt nm p' at' nt' nm'
-    → Going t m p' at' nt' nm' (take at nt ++ bytesOf (laterCells (length t - at) (u .left .sectors))) (take at nm ++ marksOf (laterCells (length t - at) (u .left .sectors)))
-writing-now t m p at nt nm p' at' nt' nm' u w = w .2 _ _ (going-start t m p at nt nm (u .left .sectors) (u .left .steps) (u .room))
+pub writing-now : (t m : List ℕ) (p at : ℕ) (nt nm : List ℕ) (p' at' : ℕ) (nt' nm' : List ℕ) (u : RemainingRoom t m p at) → Writing t m p at nt nm p' at' nt' nm'
+    → Going t m p' at' nt' nm' (take at nt ++ bytesOf (laterCells (length t - at) (u .remaining .sectors))) (take at nm ++ marksOf (laterCells (length t - at) (u .remaining .sectors)))
+writing-now t m p at nt nm p' at' nt' nm' u w = w .2 _ _ (going-start t m p at nt nm (u .remaining .sectors) (u .remaining .steps) (u .room))
 
 -- Such a key and such data ask for the room that their numbers do.
 pub cut-asks : (b : Bool) (at to kl dl l : ℕ) (key body nt nm : List ℕ) → length key ≡ kl → length body ≡ dl → (kl ≤ 255) × (dl ≤ 65535)

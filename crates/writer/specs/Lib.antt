@@ -1,3 +1,3 @@
 -- What the writing calls leave in the lent buffers.
 pub mod After
-pub mod Left
+pub mod Remaining

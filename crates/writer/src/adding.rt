@@ -16,7 +16,7 @@ ghost use Rattle.format.proofs.GrownSpans.{lastOf};
 ghost use Rattle.encode.specs.Room.{sectorFrom, sectorSize};
 ghost use Rattle.sectors.proofs.From.{SectorsFrom};
 ghost use Rattle.writer.specs.After.{trackAfter, marksAfter, filledSpan};
-ghost use Rattle.writer.specs.Left.{ReadableFlag, Addable, Left};
+ghost use Rattle.writer.specs.Remaining.{ReadableFlag, Addable, Remaining};
 use crate::both_lent;
 use crate::content_right;
 use crate::copy_kept;
@@ -32,7 +32,7 @@ struct Last {
 
 // The last of the sectors from sector 0 at place `start` on.
 fn last_of(track: &[u8], marks: &[u8], start: usize) -> Last
-    requires { ⌜ Left (now track) (now marks) start true ⌝ }
+    requires { ⌜ Remaining (now track) (now marks) start true ⌝ }
     requires { ⌜ start < length (now track) ⌝ }
     ensures { λ r. ⌜ ((x : Placed) (xs : List Placed) → SectorsFrom (now (track .entry)) (now (marks .entry)) start true (x ∷ xs) → (SectorsFrom (now (track .entry)) (now (marks .entry)) (r .place) (eqb (r .place) start) (lastOf x xs ∷ [])) × (r .position ≡ suc (length xs))) ⌝ }
 {

@@ -12,7 +12,7 @@ ghost use Rattle.format.specs.Written.{gapOne, asPair};
 ghost use Rattle.format.specs.Correct.{correctCells, correct};
 ghost use Rattle.sectors.proofs.From.{SectorsFrom};
 ghost use Rattle.writer.specs.After.{trackAfter, marksAfter};
-ghost use Rattle.writer.specs.Left.{Readable, Left, LeftRoom, RoomFor, laterCells, farthest, correctedEnd, correctedCells};
+ghost use Rattle.writer.specs.Remaining.{Readable, Remaining, RemainingRoom, RoomFor, laterCells, farthest, correctedEnd, correctedCells};
 use crate::both_lent;
 use crate::content_right;
 use crate::copy_kept;
@@ -23,7 +23,7 @@ use crate::span_end;
 
 // The place at which the last block ends, if the sectors from place p on are written behind a block that ends at `end` with the gap `gap`.
 fn end_of_later(track: &[u8], marks: &[u8], p: usize, end: usize, gap: usize) -> usize
-    requires { ⌜ Left (now track) (now marks) p false ⌝ }
+    requires { ⌜ Remaining (now track) (now marks) p false ⌝ }
     requires { ⌜ end + gap ≤ 100000 ⌝ }
     ensures { λ r. ⌜ ((xs : List Placed) → SectorsFrom (now (track .entry)) (now (marks .entry)) p false xs → r ≡ farthest end gap xs) ⌝ }
 {
@@ -50,7 +50,7 @@ fn write_later(
     p: usize,
     at: usize,
 )
-    requires { ⌜ LeftRoom (now track) (now marks) p at ⌝ }
+    requires { ⌜ RemainingRoom (now track) (now marks) p at ⌝ }
     requires { ⌜ (length (now out) ≡ length (now track)) × (length (now «out_marks») ≡ length (now track)) ⌝ }
     ensures bytes { λ _. ⌜ ((xs : List Placed) → SectorsFrom (now (track .entry)) (now (marks .entry)) p false xs → RoomFor (length (now (track .entry))) at xs → now (out .exit) ≡ take at (now (out .entry)) ++ bytesOf (laterCells (length (now (track .entry)) - at) xs)) ⌝ }
     ensures marks { λ _. ⌜ ((xs : List Placed) → SectorsFrom (now (track .entry)) (now (marks .entry)) p false xs → RoomFor (length (now (track .entry))) at xs → now («out_marks» .exit) ≡ take at (now («out_marks» .entry)) ++ marksOf (laterCells (length (now (track .entry)) - at) xs)) ⌝ }
@@ -91,7 +91,7 @@ fn corrected_end(
     key: &[u8],
     body: &[u8],
 ) -> usize
-    requires { ⌜ Left (now track) (now marks) q first ⌝ }
+    requires { ⌜ Remaining (now track) (now marks) q first ⌝ }
     requires { ⌜ q < length (now track) ⌝ }
     requires { ⌜ (length (now key) ≤ 255) × (length (now body) ≤ 65535) ⌝ }
     ensures { λ r. ⌜ ((x : Placed) (xs : List Placed) → SectorsFrom (now (track .entry)) (now (marks .entry)) q first (x ∷ xs) → r ≡ correctedEnd q (now (key .entry)) (now (body .entry)) x xs) ⌝ }
@@ -114,7 +114,7 @@ fn write_corrected(
     key: &[u8],
     body: &[u8],
 )
-    requires { ⌜ Left (now track) (now marks) q first ⌝ }
+    requires { ⌜ Remaining (now track) (now marks) q first ⌝ }
     requires { ⌜ (q < length (now track)) × ((x : Placed) (xs : List Placed) → SectorsFrom (now track) (now marks) q first (x ∷ xs) → correctedEnd q (now key) (now body) x xs ≤ length (now track)) ⌝ }
     requires { ⌜ (length (now key) ≤ 255) × (length (now body) ≤ 65535) ⌝ }
     requires { ⌜ (length (now marks) ≡ length (now track)) × (length (now out) ≡ length (now track)) × (length (now «out_marks») ≡ length (now track)) ⌝ }

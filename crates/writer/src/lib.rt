@@ -17,7 +17,7 @@ ghost use Rattle.sectors.proofs.From.{SectorsFrom};
 ghost use Rattle.encode.specs.Laid.{laidOver, laidAt};
 ghost use Rattle.encode.specs.Room.{sectorFrom, sectorSize};
 ghost use Rattle.writer.specs.After.{filledSpan};
-ghost use Rattle.writer.specs.Left.{Left};
+ghost use Rattle.writer.specs.Remaining.{Remaining};
 
 pub mod adding;
 pub mod blanking;
@@ -75,7 +75,7 @@ fn span_end(at: usize, first: bool, kl: usize, dl: usize, last: bool, l: usize) 
 
 // The place of the leftmost sector that carries S, or index where no sector does.
 fn place_of(track: &[u8], marks: &[u8], start: usize, s: u8) -> usize
-    requires { ⌜ Left (now track) (now marks) start true ⌝ }
+    requires { ⌜ Remaining (now track) (now marks) start true ⌝ }
     ensures { λ r. ⌜ ((xs : List Placed) → SectorsFrom (now (track .entry)) (now (marks .entry)) start true xs → SectorsFrom (now (track .entry)) (now (marks .entry)) r (eqb r start) (fromNumber s xs)) ⌝ }
 {
     let mut p = start;

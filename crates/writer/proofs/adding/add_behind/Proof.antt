@@ -17,7 +17,7 @@ use Rattle.sectors.proofs.From.{SectorsFrom}
 use Rattle.writer.specs.After.{filledSpan}
 use Rattle.writer.proofs.Outcome.{after-refused, after-good, room-done, room-short}
 use Rattle.writer.proofs.Filled.{content-bounds, size-most}
-use Rattle.writer.proofs.Corrected.{readable-left, readable-lengths, kept-bytes, kept-marks}
+use Rattle.writer.proofs.Corrected.{readable-remaining, readable-lengths, kept-bytes, kept-marks}
 use Rattle.writer.proofs.Added.{readable-low, all-sectors, last-lengths, last-end, last-gap, last-inside, added-made, add-short, add-done}
 use borrow.Author.Needs.{needs}
 use Rattle.writer.proofs.adding.add_behind.Statement.{statement}
@@ -29,7 +29,7 @@ last-of-requires c κs =
     let t = a .track .now in
     let m = a .marks .now in
     let r = c .before .before .before .before .before .before .pre .0 .flagged .readable in
-    (readable-left t m (a .start) r, readable-low t m (a .start) r)
+    (readable-remaining t m (a .start) r, readable-low t m (a .start) r)
 
 sector-at-requires : tie.Need-sector-at-requires
 sector-at-requires c κs = search needs
@@ -80,7 +80,7 @@ add-to c =
     let y = lastOf (z .x) (z .xs) in
     let f : SectorsFrom t m p (eqb p (a .start)) (lastOf (z .x) (z .xs) ∷ []) = last .ensures (z .x) (z .xs) (z .steps) .0 in
     let x = c .before .before .before .sector-at in
-    omega (arith, c .gap-one .ensures, last-lengths t m p (eqb p (a .start)) y f (x .result) (x .ensures), last-inside t m p (eqb p (a .start)) y f (x .result) (x .ensures), readable-left t m (a .start) r .cells-length, readable-left t m (a .start) r .length-most)
+    omega (arith, c .gap-one .ensures, last-lengths t m p (eqb p (a .start)) y f (x .result) (x .ensures), last-inside t m p (eqb p (a .start)) y f (x .result) (x .ensures), readable-remaining t m (a .start) r .cells-length, readable-remaining t m (a .start) r .length-most)
 
 cast-sector-size : tie.Need-cast-sector-size
 cast-sector-size c =
@@ -111,7 +111,7 @@ add-judge-room c =
     let f : SectorsFrom t m p (eqb p (a .start)) (lastOf (z .x) (z .xs) ∷ []) = last .ensures (z .x) (z .xs) (z .steps) .0 in
     let x = c .before .before .before .before .sector-at in
     let h = content-bounds (a .key .now) (a .body .now) (c .before .before .before .before .before .before .before .before .before .before .before .before .pre .1 .0 .1) in
-    omega (arith, h, c .before .gap-one .ensures, c .sector-size .ensures, size-most false (length (a .key .now)) (length (a .body .now)), last-lengths t m p (eqb p (a .start)) y f (x .result) (x .ensures), last-inside t m p (eqb p (a .start)) y f (x .result) (x .ensures), readable-left t m (a .start) r .cells-length, readable-left t m (a .start) r .length-most)
+    omega (arith, h, c .before .gap-one .ensures, c .sector-size .ensures, size-most false (length (a .key .now)) (length (a .body .now)), last-lengths t m p (eqb p (a .start)) y f (x .result) (x .ensures), last-inside t m p (eqb p (a .start)) y f (x .result) (x .ensures), readable-remaining t m (a .start) r .cells-length, readable-remaining t m (a .start) r .length-most)
 
 judge-room-requires : tie.Need-judge-room-requires
 judge-room-requires c κs = let a = c .before .before .before .before .before .before .before .before .before .before .before .before .args in omega (arith, readable-lengths (a .track .now) (a .marks .now) (a .start) (c .before .before .before .before .before .before .before .before .before .before .before .before .pre .0 .flagged .readable))
@@ -158,7 +158,7 @@ returns c =
     let y = lastOf (z .x) (z .xs) in
     let f : SectorsFrom t m p (eqb p (a .start)) (lastOf (z .x) (z .xs) ∷ []) = last .ensures (z .x) (z .xs) (z .steps) .0 in
     let x = c .before .before .before .before .before .before .before .before .before .before .before .before .before .before .before .before .sector-at in
-    let u = readable-left t m (a .start) r in
+    let u = readable-remaining t m (a .start) r in
     let k = readable-lengths t m (a .start) r in
     let end = x .result .end in
     let to = end + c .before .before .before .before .before .before .before .before .before .before .before .before .before .gap-one .result in
@@ -201,7 +201,7 @@ returns-2 c =
     after-refused _ _ _ (a .out .now) (a .out-marks .now)
     (add-short t m (a .start) r (a .b7) (a .s) (a .key .now) (a .body .now) (c .before .before .before .before .before .before .before .before .before .before .before .before .before .before .before .pre .1 .0 .0) (c .before .before .before .before .before .before .before .before .before .before .before .before .before .before .before .pre .1 .0 .1) (c .before .before .before .before .before .before .before .before .before .before .before .before .before .before .before .pre .0 .absent) (z .x) (z .xs) (z .all) (x .result .end) (x .result .end + c .before .before .before .before .gap-one .result)
     (last-end t m p (eqb p (a .start)) y f (x .result) (x .ensures)) (ap (λ (n : ℕ). x .result .end + n) (c .before .before .before .before .gap-one .ensures ∙ last-gap t m p (eqb p (a .start)) y f (x .result) (x .ensures))) (omega (arith, last-inside t m p (eqb p (a .start)) y f (x .result) (x .ensures)))
-    (omega (arith, room .0, c .before .before .before .sector-size .ensures, readable-left t m (a .start) r .cells-length)))
+    (omega (arith, room .0, c .before .before .before .sector-size .ensures, readable-remaining t m (a .start) r .cells-length)))
     (room .1)
 
 pub add-behind-spec : {M : Type 1} → statement M

@@ -2,7 +2,7 @@
 use mathlib.Core.Path.{sym, _∙_}
 use borrow.Author.Tests.{not-true, not-false}
 use Rattle.writer.proofs.Outcome.{after-refused}
-use Rattle.writer.proofs.Corrected.{readable-steps, readable-left, found-at, found-none}
+use Rattle.writer.proofs.Corrected.{readable-steps, readable-remaining, found-at, found-none}
 use Rattle.writer.proofs.Added.{add-overflow, add-wanted, add-repeated}
 use borrow.Author.Needs.{needs}
 use Rattle.writer.proofs.adding.add_on.Statement.{statement}
@@ -40,7 +40,7 @@ place-of-requires c κs =
     let t = a .track .now in
     let m = a .marks .now in
     let r = c .before .before .before .before .before .before .before .before .before .pre .0 .readable in
-    readable-left t m (a .start) r
+    readable-remaining t m (a .start) r
 
 sector-repeated-requires : tie.Need-sector-repeated-requires
 sector-repeated-requires c κs = search needs

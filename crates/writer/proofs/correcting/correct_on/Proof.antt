@@ -12,10 +12,10 @@ use Rattle.format.specs.Lent.{cells, unmarked}
 use Rattle.format.specs.Accept.{Placed}
 use Rattle.encode.proofs.Cells.{unmarked-bytes}
 use Rattle.sectors.proofs.From.{SectorsFrom}
-use Rattle.writer.specs.Left.{correctedEnd, correctedCells}
+use Rattle.writer.specs.Remaining.{correctedEnd, correctedCells}
 use Rattle.writer.proofs.Outcome.{after-refused, after-good, room-done, room-short}
 use Rattle.writer.proofs.Filled.{content-bounds}
-use Rattle.writer.proofs.Corrected.{readable-steps, readable-left, readable-lengths, found-left, found-at, found-none, kept-bytes, kept-marks, correct-wanted, correct-missing, correct-short, correct-done}
+use Rattle.writer.proofs.Corrected.{readable-steps, readable-remaining, readable-lengths, found-remaining, found-at, found-none, kept-bytes, kept-marks, correct-wanted, correct-missing, correct-short, correct-done}
 use Rattle.writer.proofs.correcting.correct_on.Statement.{statement}
 use Rattle.writer.proofs.correcting.correct_on.Tie as tie
 
@@ -33,7 +33,7 @@ returns c =
     (c .wanted-wrong .ensures)
 
 place-of-requires : tie.Need-place-of-requires
-place-of-requires c κs = let a = c .before .before .before .before .before .before .before .before .args in readable-left (a .track .now) (a .marks .now) (a .start) (c .before .before .before .before .before .before .before .before .pre .0)
+place-of-requires c κs = let a = c .before .before .before .before .before .before .before .before .args in readable-remaining (a .track .now) (a .marks .now) (a .start) (c .before .before .before .before .before .before .before .before .pre .0)
 
 sector-missing-requires : tie.Need-sector-missing-requires
 sector-missing-requires c κs = search needs
@@ -44,7 +44,7 @@ returns-2 c =
     let t = a .track .now in
     let m = a .marks .now in
     let r = c .before .before .before .before .before .before .before .before .before .before .before .pre .0 in
-    let u = readable-left t m (a .start) r in
+    let u = readable-remaining t m (a .start) r in
     after-refused _ _ _ (a .out .now) (a .out-marks .now)
     (correct-missing t m (a .start) r (a .s) (a .key .now) (a .body .now) (sym (c .before .before .before .before .content-right .ensures) ∙ not-false _ (c .before .before .before .if1 .left))
     (found-none t m (a .start) (c .before .before .place-of .result) (a .s) r (c .before .before .place-of .ensures (r .accepted .sectors) (readable-steps t m (a .start) r)) (c .before .if2 .taken)))
@@ -56,8 +56,8 @@ corrected-end-requires c κs =
     let t = a .track .now in
     let m = a .marks .now in
     let r = c .before .before .before .before .before .before .before .before .before .before .pre .0 in
-    let u = readable-left t m (a .start) r in (
-      found-left t m (a .start) (c .before .place-of .result) (a .s) r (c .before .place-of .ensures (r .accepted .sectors) (readable-steps t m (a .start) r)),
+    let u = readable-remaining t m (a .start) r in (
+      found-remaining t m (a .start) (c .before .place-of .result) (a .s) r (c .before .place-of .ensures (r .accepted .sectors) (readable-steps t m (a .start) r)),
       (c .if2 .left, content-bounds (a .key .now) (a .body .now) (sym (c .before .before .before .content-right .ensures) ∙ not-false _ (c .before .before .if1 .left))),
     )
 
@@ -70,14 +70,14 @@ write-corrected-requires c κs =
     let t = a .track .now in
     let m = a .marks .now in
     let r = c .before .before .before .before .before .before .before .before .before .before .before .before .before .before .before .before .pre .0 in
-    let u = readable-left t m (a .start) r in
+    let u = readable-remaining t m (a .start) r in
     let q = c .before .before .before .before .before .before .before .place-of .result in
     let k = readable-lengths t m (a .start) r in
     let judged = c .before .before .before .before .judge-room in
     let fits = room-done (judged .result .number) (judged .result .place) (c .before .before .before .before .before .corrected-end .result) (length t) (judged .ensures) (c .before .before .if3 .taken) in
     let room : (x : Placed) (xs : List Placed) → SectorsFrom t m q (eqb q (a .start)) (x ∷ xs) → correctedEnd q (a .key .now) (a .body .now) x xs ≤ length t =
     λ x xs f. omega (arith, c .before .before .before .before .before .corrected-end .ensures x xs f, fits .0) in (
-      found-left t m (a .start) q (a .s) r (c .before .before .before .before .before .before .before .place-of .ensures (r .accepted .sectors) (readable-steps t m (a .start) r)),
+      found-remaining t m (a .start) q (a .s) r (c .before .before .before .before .before .before .before .place-of .ensures (r .accepted .sectors) (readable-steps t m (a .start) r)),
       (
         (c .before .before .before .before .before .before .if2 .left, room),
         (content-bounds (a .key .now) (a .body .now) (sym (c .before .before .before .before .before .before .before .before .before .content-right .ensures) ∙ not-false _ (c .before .before .before .before .before .before .before .before .if1 .left)), (k .1, c .before .before .before .before .before .before .before .before .before .before .before .before .before .before .before .before .pre .1 .0, c .before .before .before .before .before .before .before .before .before .before .before .before .before .before .before .before .pre .1 .1)),
@@ -96,7 +96,7 @@ returns-3 c =
     let t = a .track .now in
     let m = a .marks .now in
     let r = c .before .before .before .before .before .before .before .before .before .before .before .before .before .before .before .before .before .before .before .before .before .pre .0 in
-    let u = readable-left t m (a .start) r in
+    let u = readable-remaining t m (a .start) r in
     let q = c .before .before .before .before .before .before .before .before .before .before .before .before .place-of .result in
     let k = readable-lengths t m (a .start) r in
     let wrote = c .before .before .before .before .write-corrected in
@@ -119,7 +119,7 @@ returns-4 c =
     let t = a .track .now in
     let m = a .marks .now in
     let r = c .before .before .before .before .before .before .before .before .before .before .before .before .before .before .pre .0 in
-    let u = readable-left t m (a .start) r in
+    let u = readable-remaining t m (a .start) r in
     let q = c .before .before .before .before .before .place-of .result in
     let z = found-at t m (a .start) q (a .s) r (c .before .before .before .before .before .place-of .ensures (r .accepted .sectors) (readable-steps t m (a .start) r)) (c .before .before .before .before .if2 .left) in
     let end : c .before .before .before .corrected-end .result ≡ correctedEnd q (a .key .now) (a .body .now) (z .sector) (z .later) = c .before .before .before .corrected-end .ensures (z .sector) (z .later) (z .steps) in

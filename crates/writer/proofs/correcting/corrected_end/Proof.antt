@@ -6,7 +6,7 @@ use lib.ListN.{length}
 use borrow.Author.Needs.{needs}
 use Rattle.format.specs.Written.{gapOne}
 use Rattle.writer.proofs.Filled.{size-most}
-use Rattle.writer.proofs.Corrected.{later-left, later-steps, end-new}
+use Rattle.writer.proofs.Corrected.{later-remaining, later-steps, end-new}
 use Rattle.writer.proofs.correcting.corrected_end.Statement.{statement}
 use Rattle.writer.proofs.correcting.corrected_end.Tie as tie
 
@@ -36,7 +36,7 @@ unfolding gapOne
 end-of-later-requires c κs =
     let a = c .before .before .before .before .before .before .before .args in
     let pre = c .before .before .before .before .before .before .before .pre in (
-      later-left (a .track .now) (a .marks .now) (a .q) (a .first) (pre .0) (pre .1 .0) (c .before .before .sector-at .result) (c .before .before .sector-at .ensures),
+      later-remaining (a .track .now) (a .marks .now) (a .q) (a .first) (pre .0) (pre .1 .0) (c .before .before .sector-at .result) (c .before .before .sector-at .ensures),
       omega (arith, pre .1, pre .0 .length-most, c .before .sector-size .ensures, c .gap-one .ensures, size-most (a .first) (length (a .key .now)) (length (a .body .now))),
     )
 

@@ -8,8 +8,8 @@ use lib.Seq.{length-take-le}
 use borrow.Author.Needs.{needs}
 use Rattle.format.specs.Accept.{Placed}
 use Rattle.sectors.proofs.From.{SectorsFrom}
-use Rattle.writer.specs.Left.{RoomFor}
-use Rattle.writer.proofs.Corrected.{first-left, later-steps, content-room, content-bytes, content-marks}
+use Rattle.writer.specs.Remaining.{RoomFor}
+use Rattle.writer.proofs.Corrected.{first-remaining, later-steps, content-room, content-bytes, content-marks}
 use Rattle.writer.proofs.correcting.write_corrected.Statement.{statement}
 use Rattle.writer.proofs.correcting.write_corrected.Tie as tie
 
@@ -30,7 +30,7 @@ put-span-requires c κs =
     let pre = c .before .before .before .before .before .before .before .before .before .before .before .pre in
     let long = pre .1 .1 .1 in
     let s = c .before .before .before .before .sector-at in
-    let z = first-left (a .track .now) (a .marks .now) (a .q) (a .first) (pre .0) (pre .1 .0 .0) in
+    let z = first-remaining (a .track .now) (a .marks .now) (a .q) (a .first) (pre .0) (pre .1 .0 .0) in
     let r = content-room (a .track .now) (a .marks .now) (a .q) (a .first) (z .sector) (z .later) (z .steps) (s .result) (s .ensures) (a .key .now) (a .body .now)
     (length (a .track .now)) (c .before .before .span-end .result) (c .before .before .span-end .ensures) (pre .1 .0 .1 (z .sector) (z .later) (z .steps)) in
     (pre .1 .1 .0, (r .0, (omega (arith, r .1, long), omega (arith, r .1, long))))
@@ -42,11 +42,11 @@ write-later-requires c κs =
     let long = pre .1 .1 .1 in
     let s = c .before .before .before .before .before .before .before .before .before .before .before .sector-at in
     let one = c .before .before .before .before .before .before .put-span in
-    let z = first-left (a .track .now) (a .marks .now) (a .q) (a .first) (pre .0) (pre .1 .0 .0) in
+    let z = first-remaining (a .track .now) (a .marks .now) (a .q) (a .first) (pre .0) (pre .1 .0 .0) in
     let r = content-room (a .track .now) (a .marks .now) (a .q) (a .first) (z .sector) (z .later) (z .steps) (s .result) (s .ensures) (a .key .now) (a .body .now)
     (length (a .track .now)) (c .before .before .before .before .before .before .before .before .before .span-end .result) (c .before .before .before .before .before .before .before .before .before .span-end .ensures) (pre .1 .0 .1 (z .sector) (z .later) (z .steps)) in (
       record {
-        left = record {
+        remaining = record {
           sectors = z .later;
           steps = later-steps (a .track .now) (a .marks .now) (a .q) (a .first) (z .sector) (z .later) (z .steps) (s .result) (s .ensures);
           cells-length = pre .0 .cells-length;

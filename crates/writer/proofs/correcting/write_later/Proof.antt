@@ -8,7 +8,7 @@ use lib.ListN.{length, take, drop}
 use borrow.Author.Needs.{needs}
 use Rattle.format.specs.Accept.{Placed}
 use Rattle.sectors.proofs.From.{SectorsFrom}
-use Rattle.writer.specs.Left.{RoomFor}
+use Rattle.writer.specs.Remaining.{RoomFor}
 use Rattle.writer.proofs.Later.{Writing, writing-now, cut-is, cut-length, cut-asks, going-start, going-within, going-end, going-lengths, going-parts, going-onward, going-room, going-next}
 use Rattle.writer.proofs.correcting.write_later.Statement.{statement}
 use Rattle.writer.proofs.correcting.write_later.Tie as tie
@@ -34,9 +34,9 @@ span-end-requires c κs =
     let u = c .before .before .before .before .before .before .before .before .pre .0 in
     let o = c .before .before .before .loop in
     let i = writing-now (a .track .now) (a .marks .now) (a .p) (a .at) (a .out .now) (a .out-marks .now) (o .p) (o .at) (o .out) (o .out-marks) u (o .inv) in
-    let whole = u .left .cells-length in
+    let whole = u .remaining .cells-length in
     let h = going-within (a .track .now) (a .marks .now) (o .p) (o .at) (o .out) (o .out-marks) _ _ i whole in
-    (going-lengths (a .track .now) (a .marks .now) (o .p) (o .at) (o .out) (o .out-marks) _ _ i whole (c .before .before .loop-test .taken) (c .before .sector-at .result) (c .before .sector-at .ensures), omega (arith, h, u .left .length-most))
+    (going-lengths (a .track .now) (a .marks .now) (o .p) (o .at) (o .out) (o .out-marks) _ _ i whole (c .before .before .loop-test .taken) (c .before .sector-at .result) (c .before .sector-at .ensures), omega (arith, h, u .remaining .length-most))
 
 add-k-end : tie.Need-add-k-end Inv-loop μ-loop
 add-k-end c =
@@ -44,9 +44,9 @@ add-k-end c =
     let u = c .before .before .before .before .before .before .before .before .before .before .pre .0 in
     let o = c .before .before .before .before .before .loop in
     let i = writing-now (a .track .now) (a .marks .now) (a .p) (a .at) (a .out .now) (a .out-marks .now) (o .p) (o .at) (o .out) (o .out-marks) u (o .inv) in
-    let whole = u .left .cells-length in
+    let whole = u .remaining .cells-length in
     let h = going-parts (a .track .now) (a .marks .now) (o .p) (o .at) (o .out) (o .out-marks) _ _ i whole (c .before .before .before .before .loop-test .taken) (c .before .before .before .sector-at .result) (c .before .before .before .sector-at .ensures) in
-    omega (arith, h, u .left .length-most)
+    omega (arith, h, u .remaining .length-most)
 
 add-d-end : tie.Need-add-d-end Inv-loop μ-loop
 add-d-end c =
@@ -54,9 +54,9 @@ add-d-end c =
     let u = c .before .before .before .before .before .before .before .before .before .before .before .pre .0 in
     let o = c .before .before .before .before .before .before .loop in
     let i = writing-now (a .track .now) (a .marks .now) (a .p) (a .at) (a .out .now) (a .out-marks .now) (o .p) (o .at) (o .out) (o .out-marks) u (o .inv) in
-    let whole = u .left .cells-length in
+    let whole = u .remaining .cells-length in
     let h = going-parts (a .track .now) (a .marks .now) (o .p) (o .at) (o .out) (o .out-marks) _ _ i whole (c .before .before .before .before .before .loop-test .taken) (c .before .before .before .before .sector-at .result) (c .before .before .before .before .sector-at .ensures) in
-    omega (arith, h, u .left .length-most)
+    omega (arith, h, u .remaining .length-most)
 
 sub-put-span : tie.Need-sub-put-span Inv-loop μ-loop
 sub-put-span c =
@@ -64,7 +64,7 @@ sub-put-span c =
     let u = c .before .before .before .before .before .before .before .before .before .before .before .before .before .pre .0 in
     let o = c .before .before .before .before .before .before .before .before .loop in
     let i = writing-now (a .track .now) (a .marks .now) (a .p) (a .at) (a .out .now) (a .out-marks .now) (o .p) (o .at) (o .out) (o .out-marks) u (o .inv) in
-    let whole = u .left .cells-length in
+    let whole = u .remaining .cells-length in
     let h = going-parts (a .track .now) (a .marks .now) (o .p) (o .at) (o .out) (o .out-marks) _ _ i whole (c .before .before .before .before .before .before .before .loop-test .taken) (c .before .before .before .before .before .before .sector-at .result) (c .before .before .before .before .before .before .sector-at .ensures) in
     omega (arith, h)
 
@@ -74,7 +74,7 @@ part-put-span-start c =
     let u = c .before .before .before .before .before .before .before .before .before .before .before .before .before .pre .0 in
     let o = c .before .before .before .before .before .before .before .before .loop in
     let i = writing-now (a .track .now) (a .marks .now) (a .p) (a .at) (a .out .now) (a .out-marks .now) (o .p) (o .at) (o .out) (o .out-marks) u (o .inv) in
-    let whole = u .left .cells-length in
+    let whole = u .remaining .cells-length in
     let h = going-parts (a .track .now) (a .marks .now) (o .p) (o .at) (o .out) (o .out-marks) _ _ i whole (c .before .before .before .before .before .before .before .loop-test .taken) (c .before .before .before .before .before .before .sector-at .result) (c .before .before .before .before .before .before .sector-at .ensures) in
     omega (arith, h)
 
@@ -84,7 +84,7 @@ part-put-span-end c =
     let u = c .before .before .before .before .before .before .before .before .before .before .before .before .before .pre .0 in
     let o = c .before .before .before .before .before .before .before .before .loop in
     let i = writing-now (a .track .now) (a .marks .now) (a .p) (a .at) (a .out .now) (a .out-marks .now) (o .p) (o .at) (o .out) (o .out-marks) u (o .inv) in
-    let whole = u .left .cells-length in
+    let whole = u .remaining .cells-length in
     let h = going-parts (a .track .now) (a .marks .now) (o .p) (o .at) (o .out) (o .out-marks) _ _ i whole (c .before .before .before .before .before .before .before .loop-test .taken) (c .before .before .before .before .before .before .sector-at .result) (c .before .before .before .before .before .before .sector-at .ensures) in
     omega (arith, h)
 
@@ -94,7 +94,7 @@ sub-put-span-2 c =
     let u = c .before .before .before .before .before .before .before .before .before .before .before .before .before .before .pre .0 in
     let o = c .before .before .before .before .before .before .before .before .before .loop in
     let i = writing-now (a .track .now) (a .marks .now) (a .p) (a .at) (a .out .now) (a .out-marks .now) (o .p) (o .at) (o .out) (o .out-marks) u (o .inv) in
-    let whole = u .left .cells-length in
+    let whole = u .remaining .cells-length in
     let h = going-parts (a .track .now) (a .marks .now) (o .p) (o .at) (o .out) (o .out-marks) _ _ i whole (c .before .before .before .before .before .before .before .before .loop-test .taken) (c .before .before .before .before .before .before .before .sector-at .result) (c .before .before .before .before .before .before .before .sector-at .ensures) in
     omega (arith, h)
 
@@ -104,7 +104,7 @@ part-put-span-start-2 c =
     let u = c .before .before .before .before .before .before .before .before .before .before .before .before .before .before .pre .0 in
     let o = c .before .before .before .before .before .before .before .before .before .loop in
     let i = writing-now (a .track .now) (a .marks .now) (a .p) (a .at) (a .out .now) (a .out-marks .now) (o .p) (o .at) (o .out) (o .out-marks) u (o .inv) in
-    let whole = u .left .cells-length in
+    let whole = u .remaining .cells-length in
     let h = going-parts (a .track .now) (a .marks .now) (o .p) (o .at) (o .out) (o .out-marks) _ _ i whole (c .before .before .before .before .before .before .before .before .loop-test .taken) (c .before .before .before .before .before .before .before .sector-at .result) (c .before .before .before .before .before .before .before .sector-at .ensures) in
     omega (arith, h)
 
@@ -114,7 +114,7 @@ part-put-span-end-2 c =
     let u = c .before .before .before .before .before .before .before .before .before .before .before .before .before .before .pre .0 in
     let o = c .before .before .before .before .before .before .before .before .before .loop in
     let i = writing-now (a .track .now) (a .marks .now) (a .p) (a .at) (a .out .now) (a .out-marks .now) (o .p) (o .at) (o .out) (o .out-marks) u (o .inv) in
-    let whole = u .left .cells-length in
+    let whole = u .remaining .cells-length in
     let h = going-parts (a .track .now) (a .marks .now) (o .p) (o .at) (o .out) (o .out-marks) _ _ i whole (c .before .before .before .before .before .before .before .before .loop-test .taken) (c .before .before .before .before .before .before .before .sector-at .result) (c .before .before .before .before .before .before .before .sector-at .ensures) in
     omega (arith, h)
 
@@ -124,7 +124,7 @@ put-span-requires c κs =
     let u = c .before .before .before .before .before .before .before .before .before .before .before .before .before .before .before .pre .0 in
     let o = c .before .before .before .before .before .before .before .before .before .before .loop in
     let i = writing-now (a .track .now) (a .marks .now) (a .p) (a .at) (a .out .now) (a .out-marks .now) (o .p) (o .at) (o .out) (o .out-marks) u (o .inv) in
-    let whole = u .left .cells-length in
+    let whole = u .remaining .cells-length in
     let x = c .before .before .before .before .before .before .before .before .sector-at .result in
     let h = going-parts (a .track .now) (a .marks .now) (o .p) (o .at) (o .out) (o .out-marks) _ _ i whole (c .before .before .before .before .before .before .before .before .before .loop-test .taken) (c .before .before .before .before .before .before .before .before .sector-at .result) (c .before .before .before .before .before .before .before .before .sector-at .ensures) in
     let n = going-lengths (a .track .now) (a .marks .now) (o .p) (o .at) (o .out) (o .out-marks) _ _ i whole (c .before .before .before .before .before .before .before .before .before .loop-test .taken) (c .before .before .before .before .before .before .before .before .sector-at .result) (c .before .before .before .before .before .before .before .before .sector-at .ensures) in
@@ -143,7 +143,7 @@ loop-less c =
     let u = c .before .before .before .before .before .before .before .before .before .before .before .before .before .before .before .before .before .before .before .before .pre .0 in
     let o = c .before .before .before .before .before .before .before .before .before .before .before .before .before .before .before .loop in
     let i = writing-now (a .track .now) (a .marks .now) (a .p) (a .at) (a .out .now) (a .out-marks .now) (o .p) (o .at) (o .out) (o .out-marks) u (o .inv) in
-    let whole = u .left .cells-length in
+    let whole = u .remaining .cells-length in
     let h = going-onward (a .track .now) (a .marks .now) (o .p) (o .at) (o .out) (o .out-marks) _ _ i whole (c .before .before .before .before .before .before .before .before .before .before .before .before .before .before .loop-test .taken) (c .before .before .before .before .before .before .before .before .before .before .before .before .before .sector-at .result) (c .before .before .before .before .before .before .before .before .before .before .before .before .before .sector-at .ensures) in
     omega (arith, h)
 
@@ -158,7 +158,7 @@ loop-again c =
       w .kept .0 ∙ o .inv .0,
       w .kept .1 .0 ∙ o .inv .1,
       λ F G g.
-          going-next t (a .marks .now) (o .p) (o .at) (o .out) (o .out-marks) F G (o .inv .2 F G g) (u .left .cells-length) (c .before .before .before .before .before .before .before .before .before .before .before .before .before .before .loop-test .taken) x (c .before .before .before .before .before .before .before .before .before .before .before .before .before .sector-at .ensures)
+          going-next t (a .marks .now) (o .p) (o .at) (o .out) (o .out-marks) F G (o .inv .2 F G g) (u .remaining .cells-length) (c .before .before .before .before .before .before .before .before .before .before .before .before .before .before .loop-test .taken) x (c .before .before .before .before .before .before .before .before .before .before .before .before .before .sector-at .ensures)
           (c .before .before .before .before .before .before .before .before .before .before .before .span-end .result) (c .before .before .before .before .before .before .before .before .before .before .before .span-end .ensures) (c .before .before .before .before .before .before .before .before .before .before .before .before .address-at .result) _ _ (w .last .0) (w .last .1 .0) (c .before .before .before .before .before .before .before .before .before .before .before .before .address-at .ensures)
           (cut-is (x .«key_place») (x .«key_length») t) (cut-is (x .«data_place») (x .«data_length») t) (o .inv .0) (o .inv .1) (w .ensures .0) (w .ensures .1),
     )
@@ -177,7 +177,7 @@ returns c =
     let done : (xs : List Placed) (s : SectorsFrom (a .track .now) (a .marks .now) (a .p) false xs) (r : RoomFor (length (a .track .now)) (a .at) xs) → _ =
     λ xs s r.
     let i = o .inv .2 _ _ (going-start (a .track .now) (a .marks .now) (a .p) (a .at) (a .out .now) (a .out-marks .now) xs s r) in
-    going-end (a .track .now) (a .marks .now) (o .p) (o .at) (o .out) (o .out-marks) _ _ i (u .left .cells-length) (c .loop-test .left) (o .inv .0) (o .inv .1) in
+    going-end (a .track .now) (a .marks .now) (o .p) (o .at) (o .out) (o .out-marks) _ _ i (u .remaining .cells-length) (c .loop-test .left) (o .inv .0) (o .inv .1) in
     (λ xs s r. done xs s r .0, λ xs s r. done xs s r .1)
 
 pub write-later-spec : {M : Type 1} → statement M

@@ -1,4 +1,4 @@
--- The sectors that are left of an accepted track from a place on, as the writing loops step over them.
+-- The sectors that remain of an accepted track from a place on, as the writing loops step over them.
 use mathlib.Core.Path.{_≡_}
 use Prim.Native.Nat.{ℕ, _+_, _-_, _≤_}
 use mathlib.Core.Bool.{Bool, false}
@@ -32,7 +32,7 @@ pub record Addable (t m : List ℕ) (start f s : ℕ) : Type 0 where
   pub absent : fromNumber s (flagged .readable .accepted .sectors) ≡ []
 
 -- The sectors from place p on.
-pub record Left (t m : List ℕ) (p : ℕ) (first : Bool) : Type 0 where
+pub record Remaining (t m : List ℕ) (p : ℕ) (first : Bool) : Type 0 where
   pub sectors : List Placed
   pub steps : SectorsFrom t m p first sectors
   pub cells-length : length (cells t m) ≡ length t
@@ -42,15 +42,15 @@ pub record Left (t m : List ℕ) (p : ℕ) (first : Bool) : Type 0 where
 abbrev pub laterCells : ℕ → List Placed → List ℕ
 laterCells n xs = joined (writtenSpans gapOne n (sectorsOf xs))
 
--- There is room for them from place `at` of l cells on; none are left at index.
+-- There is room for them from place `at` of l cells on; none remain at index.
 abbrev pub RoomFor : ℕ → ℕ → List Placed → Type 0
 RoomFor l at [] = at ≡ l
 RoomFor l at (x ∷ xs) = at + reach gapOne (sectorsOf (x ∷ xs)) ≤ l
 
 -- The sectors from place p of the old track on have room from place `at` of the new one on.
-pub record LeftRoom (t m : List ℕ) (p at : ℕ) : Type 0 where
-  pub left : Left t m p false
-  pub room : RoomFor (length t) at (left .sectors)
+pub record RemainingRoom (t m : List ℕ) (p at : ℕ) : Type 0 where
+  pub remaining : Remaining t m p false
+  pub room : RoomFor (length t) at (remaining .sectors)
 
 -- Where the last block of the sectors xs ends, if a block before them ends at `end` and has the gap `gap` behind it.
 unfoldable pub farthest : ℕ → ℕ → List Placed → ℕ
