@@ -6,20 +6,19 @@ use mathlib.Core.Bool.{Bool, true}
 use mathlib.Core.List.{List, [], _∷_, _++_}
 use lib.ListN.{length, take, drop}
 use lib.Seq.{take-append-seam, drop-append-seam, drop-drop}
-use Rattle.format.specs.Answer.{homeCheckWrong, homeFieldsWrong}
 use Rattle.format.specs.Judged.{Judged, good}
 use Rattle.format.specs.Lent.{unmarked}
-use Rattle.format.specs.Opening.{closedAfter}
-use Rattle.format.specs.Home.{Home, findHome, homeBytes, homeAt, homeFieldsRight, judgeHome, firstCountPlace}
+use Rattle.format.specs.Home.{Home, findHome, homeBytes, judgeHome, firstCountPlace}
 use Rattle.format.specs.Count.{Settled, unsettled}
 use Rattle.format.specs.Span.{runsToIndex, spanLength, joined, none}
 use Rattle.format.specs.Sector.{Sector, openingLength, isFirst, settle}
 use Rattle.format.specs.Accept.{Placed, placedFrom, Accepted, spansOf, acceptCells}
 use Rattle.format.specs.Candidate.{candidatesFrom, candidates}
-use Rattle.format.proofs.Judged.{false-true, and-both, good-inj, then-good, require-good}
+use Rattle.format.proofs.Judged.{false-true, and-both, then-good}
 use Rattle.format.proofs.Shape.{Shape, cleanSpan, cleanSpans}
 use Rattle.format.proofs.Opening.{unmarked-append}
 use Rattle.format.proofs.Cutting.{joined-spans, later-unmarked}
+use Rattle.format.proofs.HomeLocal.{judged-place}
 use Rattle.format.proofs.SpanAgrees.{span-agrees}
 use Rattle.format.proofs.ReadSector.{read-inv, span-least}
 use Rattle.format.proofs.ReadsAs.{Reads, accepted-by}
@@ -28,13 +27,8 @@ use Rattle.format.proofs.SpanCandidates.{candidatesOf, joined-seam, pas
 
 -- A home that is judged was found at its place.
 pub home-found : (c : List ℕ) (h : Home) → judgeHome c ≡ good h → findHome c ≡ good (h .place)
-unfolding judgeHome homeAt
-home-found c h e =
-    let a = then-good (findHome c) _ h e in
-    let p : ℕ = a .0 in
-    let b = require-good (closedAfter 5 (homeBytes p c)) (homeCheckWrong p) _ h (a .2) in
-    let d = require-good (homeFieldsRight (homeAt p c)) (homeFieldsWrong p) _ h (b .1) in
-    a .1 ∙ ap (λ (k : Home). good (k .place)) (good-inj (homeAt p c) h (d .1))
+unfolding judgeHome
+home-found c h e = let a = then-good (findHome c) _ h e in a .1 ∙ ap good (judged-place (a .0) (homeBytes (a .0) c) h (a .2))
 
 -- The candidates of a head without marks and of the spans behind it.
 candidates-track : (head : List ℕ) (h : Home) (gs : List (List ℕ)) (ss : List Sector) → Track head h gs ss

@@ -17,7 +17,7 @@ use Rattle.format.specs.Span.{none}
 use Rattle.format.specs.Sector.{Sector, openingLength, isFirst, settle, sectorIn}
 use Rattle.format.specs.Accept.{Placed, placedFrom, among, Accepted, spansOf, accept}
 use Rattle.format.specs.Candidate.{Candidate, candidates}
-use Rattle.format.specs.Find.{Wanted, theKey, theData, Part, partAt, partOf, carrying, only, keyPlace, dataPlace, wantedPart, findCells, find}
+use Rattle.format.specs.Find.{Wanted, theKey, theData, Part, partAt, partOf, carrying, only, keyPlace, dataPlace, wantedPart, candidatePart, findCells, find}
 use Rattle.format.proofs.Judged.{cases, false-true}
 use Rattle.format.proofs.Lists.{Member}
 use Rattle.format.proofs.ReadSector.{ReadAs, behindOpening, read-inv}
@@ -141,7 +141,7 @@ wanted-good last x v theData = let y : Candidate = candidateOf last x in (partAt
 
 find-alone : (s : ℕ) (w : Wanted) (t m : List ℕ) (x : Candidate) → lentForReading t m ≡ true → carrying s (candidates (cells t m)) ≡ x ∷ [] → blocksFit (x .last) (x .rest) ≡ true
     → find s w t m ≡ wantedPart w x
-unfolding find findCells only
+unfolding find findCells candidatePart only
 find-alone s w t m x l o f = rw (l, o, f)
 
 -- On an accepted track Find hands out the key and the data of each sector.

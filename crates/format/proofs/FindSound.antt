@@ -16,7 +16,7 @@ use Rattle.format.specs.Opening.{startsWith, plainOpening, closing, clos
 use Rattle.format.specs.Count.{countNumber}
 use Rattle.format.specs.Block.{blocksFit}
 use Rattle.format.specs.Candidate.{Candidate, candidates}
-use Rattle.format.specs.Find.{Wanted, Part, partOf, carrying, only, wantedPart, findCells, find}
+use Rattle.format.specs.Find.{Wanted, Part, partOf, carrying, only, wantedPart, candidatePart, findCells, find}
 use Rattle.format.proofs.Judged.{cases, false-true, and-both, and-make, then-good, require-good}
 use Rattle.format.proofs.Lists.{Member}
 use Rattle.format.proofs.CandidateBytes.{rest-in-track}
@@ -103,7 +103,7 @@ module _ (w : Wanted) (t m : List ℕ) (x : Candidate) (part : Part) (k : Member
 
 -- Find hands out nothing else.
 pub find-hands-out : (s : ℕ) (w : Wanted) (t m : List ℕ) (part : Part) → find s w t m ≡ good part → (x : Candidate) × HandedOut s w t m part x
-unfolding find findCells
+unfolding find findCells candidatePart
 find-hands-out s w t m part e =
     let c : List ℕ = cells t m in
     let a = require-good (lentForReading t m) lentWrong (findCells s w c) part e in

@@ -13,7 +13,7 @@ use Rattle.format.specs.Opening.{startsWith, plainOpening}
 use Rattle.format.specs.Home.{Home}
 use Rattle.format.specs.Count.{Settled, keyLength, dataLength, countFits, countClosed, countFieldsRight}
 use Rattle.format.specs.Block.{keyOffset, keySize, dataSize, dataOffset, blockEnd, leastGap, blocksFit, keyRight, dataRight, keyInfo, dataInfo, blockInfo}
-use Rattle.format.specs.Sector.{Sector, openingLength, isFirst, sectorIn, judgeCount, readBlocks, readSpan}
+use Rattle.format.specs.Sector.{Sector, openingLength, isFirst, sectorIn, judgeCount, readBlocks, judgeSector, readSpan}
 use Rattle.format.proofs.Judged.{good-inj, then-good, require-good, require-holds}
 use Rattle.format.proofs.Sizes.{key-size-least, data-size-least, gap-least, rest-least}
 
@@ -62,7 +62,7 @@ blocks-make first p last r s a b c e = rw (a, b, c, e)
 
 -- A reading that gives a sector has passed every test.
 pub read-inv : (h : Home) (i : ℕ) (x : Settled) (p : ℕ) (last : Bool) (g : List ℕ) (s : Sector) → readSpan h i x p last g ≡ good s → ReadAs h i x last g s
-unfolding readSpan
+unfolding readSpan judgeSector
 read-inv h zero x p last g s e =
     let o = require-good (startsWith plainOpening g) (firstCountMissing p) _ s e in
     let t = then-good (judgeCount h 0 x p (drop 6 g)) _ s (o .1) in
@@ -95,7 +95,7 @@ read-inv h (suc i) x p last g s e =
 
 -- A span that passes every test is read, at any place.
 pub read-make : (h : Home) (i : ℕ) (x : Settled) (p : ℕ) (last : Bool) (g : List ℕ) (s : Sector) → ReadAs h i x last g s → readSpan h i x p last g ≡ good s
-unfolding readSpan
+unfolding readSpan judgeSector
 read-make h zero x p last g s v =
     require-holds (startsWith plainOpening g) (firstCountMissing p) _ (good s) (v .opened refl)
     (rw (count-make h 0 x p (drop 6 g) (v .count-fits) (v .count-closed) (v .fields-right))

@@ -1,18 +1,18 @@
 -- The relation of spans and the sectors that they read as: the vehicle of inductions over an accepted track.
 use mathlib.Core.Path.{_≡_, refl, sym, ap, _∙_, subst}
-use Prim.Native.Nat.{ℕ, zero, suc, _+_, _≤_}
+use Prim.Native.Nat.{ℕ, suc, _+_}
 use native.Mathlib.Omega.{arith}
-use mathlib.Core.Bool.{Bool, true, false, _&&_}
-use mathlib.Core.List.{List, [], _∷_, map}
-use lib.ListN.{length, drop}
-use Rattle.format.specs.Judged.{Judged, good, refused, then, require}
+use mathlib.Core.Bool.{true}
+use mathlib.Core.List.{List, [], _∷_}
+use lib.ListN.{length}
+use Rattle.format.specs.Judged.{good, then}
 use Rattle.format.specs.Home.{Home, judgeHome, firstCountPlace}
 use Rattle.format.specs.Count.{Settled, unsettled}
-use Rattle.format.specs.Span.{spans, none}
+use Rattle.format.specs.Span.{none}
 use Rattle.format.specs.Sector.{Sector, settle, readSpan}
-use Rattle.format.specs.Accept.{judgeMarks, readSpans, Placed, placedFrom, judgeNumbers, Accepted, spansOf, firstCountEnd, acceptCells}
+use Rattle.format.specs.Accept.{judgeMarks, readSpans, Placed, placedFrom, judgeNumbers, Accepted, spansOf, judgeBehind, firstCountEnd, acceptCells}
 use Rattle.format.specs.Correct.{sectorsOf}
-use Rattle.format.proofs.Shape.{cleanSpan, cleanSpans, Stands, AllStand}
+use Rattle.format.proofs.Shape.{cleanSpan, cleanSpans, AllStand}
 use Rattle.format.proofs.Judged.{good-inj, then-good, and-both}
 use Rattle.format.proofs.ReadBack.{read-stands}
 
@@ -73,26 +73,28 @@ pub record AcceptedBy (c : List ℕ) (a : Accepted) : Type 0 where
   pub numbers-judged : judgeNumbers [] (a .sectors) ≡ good tt
 
 pub accepted-by : (c : List ℕ) (a : Accepted) → acceptCells c ≡ good a → AcceptedBy c a
-unfolding acceptCells
+unfolding acceptCells judgeBehind
 accepted-by c a e =
     let j = then-good (judgeHome c) _ a e in
     let h : Home = j .0 in
-    let k = then-good (judgeMarks (firstCountEnd (h .place)) 0 0 c) _ a (j .2) in
-    let l = then-good (readSpans h 0 unsettled (firstCountPlace (h .place)) (spansOf h c)) _ a (k .2) in
+    let b = then-good (judgeBehind h c) _ a (j .2) in
+    let k = then-good (judgeMarks (firstCountEnd (h .place)) 0 0 c) _ (b .0) (b .1) in
+    let l = then-good (readSpans h 0 unsettled (firstCountPlace (h .place)) (spansOf h c)) _ (b .0) (k .2) in
     let xs : List Placed = placedFrom (firstCountPlace (h .place)) (spansOf h c) (l .0) in
-    let n = then-good (judgeNumbers [] xs) _ a (l .2) in
-    subst (AcceptedBy c) (good-inj (record { home = h; sectors = xs }) a (n .2))
+    let n = then-good (judgeNumbers [] xs) _ (b .0) (l .2) in
+    let same : b .0 ≡ xs = sym (good-inj xs (b .0) (n .2)) in
+    subst (AcceptedBy c) (good-inj (record { home = h; sectors = b .0 }) a (b .2))
     (record {
       sectors = l .0;
       home-judged = j .1;
       marks-judged = k .1;
       reads = read-reads h 0 unsettled (firstCountPlace (h .place)) (spansOf h c) (l .0) (l .1);
-      placed = refl;
-      numbers-judged = n .1;
+      placed = same;
+      numbers-judged = ap (judgeNumbers []) same ∙ n .1;
     })
 
 pub by-accepted : (c : List ℕ) (a : Accepted) → AcceptedBy c a → acceptCells c ≡ good a
-unfolding acceptCells
+unfolding acceptCells judgeBehind
 by-accepted c a b =
     let p : ℕ = firstCountPlace (a .home .place) in
     rw (b .home-judged, b .marks-judged, reads-read (a .home) 0 unsettled p (spansOf (a .home) c) (b .sectors) (b .reads), ← b .placed, b .numbers-judged)

@@ -1,11 +1,11 @@
 -- Home as it is first written is found at place 30 and passes.
-use mathlib.Core.Path.{_≡_, refl, ap, ap₂, _∙_}
+use mathlib.Core.Path.{_≡_, refl, ap, ap₂}
 use Prim.Native.Nat.{ℕ, _/_, _%_, _≤_}
 use native.Mathlib.Omega.{arith}
 use native.Mathlib.Nat.{div-add-mod'}
 use mathlib.Core.Bool.{true}
 use mathlib.Core.List.{List, [], _∷_, _++_}
-use lib.ListN.{length, getD, replicate}
+use lib.ListN.{length, replicate}
 use lib.Dec.{leb, ltb, lit<}
 use borrow.Author.Tests.{leb-true, lt-ltb, ltb-true, eq-eqb}
 use Rattle.crc.specs.Check.{checkBytes}
@@ -14,7 +14,7 @@ use Rattle.format.specs.Lent.{bytesOf, unmarked}
 use Rattle.format.specs.Opening.{plainOpening, closing, closedAfter}
 use Rattle.format.specs.Flag.{homeFlagRight}
 use Rattle.format.specs.Address.{Address, addressIn, addressBytes, addressInRange}
-use Rattle.format.specs.Home.{homeFrom, findHome, homeBytes, homeAt, homeFieldsRight, judgeHome}
+use Rattle.format.specs.Home.{homeFrom, findHome, homeBytes, homeOf, homeFieldsRight, judgeHomeOf, judgeHome}
 use Rattle.format.specs.Written.{homeGap, writtenBlock}
 use Rattle.format.specs.Blank.{writtenHead}
 use Rattle.format.proofs.Judged.{and-both}
@@ -93,15 +93,9 @@ module _ (f : ℕ) (own : Address) where
   unfolding homeBytes writtenHead writtenBlock addressBytes closing checkBytes
   home-bytes r h e = bytes-unmarked (info ++ closing info) (info-unmarked h e)
 
-  home-at : (r : List ℕ) → f ≤ 3 → addressInRange own ≡ true → homeAt 30 (writtenHead f own ++ r) ≡ record { place = 30; flag = f; address = own }
-  unfolding homeAt
-  home-at r h e =
-      let b = home-bytes r h e in
-      λ i. record {
-        place = 30;
-        flag = getD (b i) 0 0;
-        address = (ap addressIn b ∙ address-back f own (closing info)) i;
-      }
+  home-of : homeOf 30 (info ++ closing info) ≡ record { place = 30; flag = f; address = own }
+  unfolding homeOf
+  home-of = ap (λ (a : Address). record { place = 30; flag = f; address = a }) (address-back f own (closing info))
 
   info-closed : closedAfter 5 (info ++ closing info) ≡ true
   unfolding closedAfter addressBytes closing checkBytes
@@ -109,6 +103,5 @@ module _ (f : ℕ) (own : Address) where
 
   -- Home of a track that starts with the written head, whatever follows.
   pub written-home : (r : List ℕ) → f ≤ 3 → addressInRange own ≡ true → judgeHome (writtenHead f own ++ r) ≡ good (record { place = 30; flag = f; address = own })
-  unfolding judgeHome homeFieldsRight
-  written-home r h e =
-      rw (home-found r, home-bytes r h e, info-closed, home-at r h e, home-flag f h, e)
+  unfolding judgeHome judgeHomeOf homeFieldsRight
+  written-home r h e = rw (home-found r, home-bytes r h e, info-closed, home-of, home-flag f h, e)

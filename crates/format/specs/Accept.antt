@@ -68,15 +68,18 @@ spansOf h c = spans (drop (firstCountPlace (h .place)) c)
 abbrev pub firstCountEnd : ℕ → ℕ
 firstCountEnd p = p + 43
 
--- The cells of a track: 2 to 5, then sector by sector, last 13.
-unfoldable pub acceptCells : List ℕ → Judged Accepted
-acceptCells c =
-    then (judgeHome c) (λ h.
+-- The sectors of the track c behind its home h: 5, then sector by sector, last 13.
+unfoldable pub judgeBehind : Home → List ℕ → Judged (List Placed)
+judgeBehind h c =
     then (judgeMarks (firstCountEnd (h .place)) 0 0 c) (λ _.
     then (readSpans h 0 unsettled (firstCountPlace (h .place)) (spansOf h c)) (λ ss.
     let xs = placedFrom (firstCountPlace (h .place)) (spansOf h c) ss in
     then (judgeNumbers [] xs) (λ _.
-    good (record { home = h; sectors = xs })))))
+    good xs)))
+
+-- The cells of a track: 2 to 4, then what stands behind home.
+unfoldable pub acceptCells : List ℕ → Judged Accepted
+acceptCells c = then (judgeHome c) (λ h. then (judgeBehind h c) (λ xs. good (record { home = h; sectors = xs })))
 
 -- A lent pair: 1 first.
 unfoldable pub accept : List ℕ → List ℕ → Judged Accepted

@@ -52,11 +52,13 @@ unfoldable pub wantedPart : Wanted → Candidate → Judged Part
 wantedPart theKey x = require (keyRight (x .rest)) (keyWrong (keyPlace x)) (good (partAt (keyPlace x + 6) (keyLength (x .rest))))
 wantedPart theData x = require (dataRight (x .rest)) (dataWrong (dataPlace x)) (good (partAt (dataPlace x + 6) (dataLength (x .rest))))
 
--- The cells of a track: 12, 13, then 9 for both blocks, then 10 or 11.
+-- The part asked for of a candidate: 9 where its blocks and the least gap do not fit its span, then 10 or 11.
+unfoldable pub candidatePart : Wanted → Candidate → Judged Part
+candidatePart w x = require (blocksFit (x .last) (x .rest)) (spanTooShort (x .place)) (wantedPart w x)
+
+-- The cells of a track: 12, 13, then the part of the only candidate that carries S.
 unfoldable pub findCells : ℕ → Wanted → List ℕ → Judged Part
-findCells s w c =
-    then (only (carrying s (candidates c))) (λ x.
-    require (blocksFit (x .last) (x .rest)) (spanTooShort (x .place)) (wantedPart w x))
+findCells s w c = then (only (carrying s (candidates c))) (candidatePart w)
 
 -- A lent pair: 1 first.
 unfoldable pub find : ℕ → Wanted → List ℕ → List ℕ → Judged Part

@@ -29,20 +29,24 @@ pub record Home : Type 0 where
   pub flag : ℕ
   pub address : Address
 
-unfoldable pub homeAt : ℕ → List ℕ → Home
-homeAt p c = record { place = p; flag = getD (homeBytes p c) 0 0; address = addressIn (homeBytes p c) }
+-- The home at p of the bytes r that follow its opening.
+unfoldable pub homeOf : ℕ → List ℕ → Home
+homeOf p r = record { place = p; flag = getD r 0 0; address = addressIn r }
 
 -- Flag, C and H of home are within the rule.
 unfoldable pub homeFieldsRight : Home → Bool
 homeFieldsRight h = homeFlagRight (h .flag) && addressInRange (h .address)
 
+-- What is judged of it: 3 where its check or closing byte is wrong, then 4.
+unfoldable pub judgeHomeOf : ℕ → List ℕ → Judged Home
+judgeHomeOf p r =
+    require (closedAfter 5 r) (homeCheckWrong p)
+    (require (homeFieldsRight (homeOf p r)) (homeFieldsWrong p)
+    (good (homeOf p r)))
+
 -- Home opens, its check and closing byte are right, and so are its fields: answers 2, 3 and 4.
 unfoldable pub judgeHome : List ℕ → Judged Home
-judgeHome c =
-    then (findHome c) (λ p.
-    require (closedAfter 5 (homeBytes p c)) (homeCheckWrong p)
-    (require (homeFieldsRight (homeAt p c)) (homeFieldsWrong p)
-    (good (homeAt p c))))
+judgeHome c = then (findHome c) (λ p. judgeHomeOf p (homeBytes p c))
 
 -- Sector 0's count opens 11 bytes after home, which has 14.
 abbrev pub firstCountPlace : ℕ → ℕ

@@ -37,15 +37,17 @@ fromFirstCount h c = drop (firstCountPlace (h .place)) c
 unfoldable pub namedTrack : Home → List ℕ → Address
 namedTrack h c = countAddress (drop 6 (fromFirstCount h c))
 
--- The first track's home and sector 0's count: 1 to 4, 6, 9 for the count, 7, 8.
+-- The home h of a track c whose count of sector 0 is right: 6, 9 for the count, 7, 8.
+unfoldable pub judgeFirstCount : Home → List ℕ → Judged Home
+judgeFirstCount h c =
+    require (startsWith plainOpening (fromFirstCount h c)) (firstCountMissing (firstCountPlace (h .place)))
+    (then (judgeCount h 0 unsettled (firstCountPlace (h .place)) (afterOpening 6 (fromFirstCount h c))) (λ _. good h))
+
+-- The first track's home and sector 0's count: 1 to 4, then the count.
 unfoldable pub judgeFirst : List ℕ → List ℕ → Judged Home
 judgeFirst t m =
-    let c = cells t m in
     require (lentForReading t m) lentWrong
-    (then (judgeHome c) (λ h.
-    require (startsWith plainOpening (fromFirstCount h c)) (firstCountMissing (firstCountPlace (h .place)))
-    (then (judgeCount h 0 unsettled (firstCountPlace (h .place)) (afterOpening 6 (fromFirstCount h c))) (λ _.
-    good h))))
+    (then (judgeHome (cells t m)) (λ h. judgeFirstCount h (cells t m)))
 
 -- The second track is flagged 01, is the one that the first names, and names the first.
 unfoldable pub pairAgrees : Home → List ℕ → Home → List ℕ → Bool

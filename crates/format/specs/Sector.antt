@@ -64,9 +64,11 @@ readBlocks first p last r =
     (require (dataRight r) (dataWrong (p + openingLength first + dataOffset r))
     (good (sectorIn first r))))
 
--- The sector in position i whose span is g: 6 where sector 0's count does not open, then its count, then its blocks.
+-- The sector in position i and at place p by what follows its count's opening: its count, then its blocks.
+unfoldable pub judgeSector : Home → ℕ → Settled → ℕ → Bool → List ℕ → Judged Sector
+judgeSector h i x p last r = then (judgeCount h i x p r) (λ _. readBlocks (isFirst i) p last r)
+
+-- The sector in position i whose span is g: 6 where sector 0's count does not open, then what follows its opening.
 unfoldable pub readSpan : Home → ℕ → Settled → ℕ → Bool → List ℕ → Judged Sector
-readSpan h zero x p last g =
-    require (startsWith plainOpening g) (firstCountMissing p)
-    (then (judgeCount h 0 x p (drop 6 g)) (λ _. readBlocks true p last (drop 6 g)))
-readSpan h (suc i) x p last g = then (judgeCount h (suc i) x p (drop 8 g)) (λ _. readBlocks false p last (drop 8 g))
+readSpan h zero x p last g = require (startsWith plainOpening g) (firstCountMissing p) (judgeSector h 0 x p last (drop 6 g))
+readSpan h (suc i) x p last g = judgeSector h (suc i) x p last (drop 8 g)

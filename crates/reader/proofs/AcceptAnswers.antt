@@ -15,10 +15,9 @@ use Rattle.format.specs.Home.{Home}
 use Rattle.format.specs.Count.{Settled, settled, countFits, countClosed, countFieldsRight}
 use Rattle.format.specs.Block.{keyOffset, dataOffset, blocksFit, keyRight, dataRight}
 use Rattle.format.specs.Span.{none}
-use Rattle.format.specs.Sector.{openingLength, isFirst, sectorIn, settle, judgeCount, readBlocks, readSpan}
+use Rattle.format.specs.Sector.{openingLength, isFirst, sectorIn, settle, judgeCount, readBlocks, judgeSector, readSpan}
 use Rattle.format.specs.Accept.{readSpans}
 use Rattle.format.proofs.Judged.{cases}
-use Rattle.reader.specs.Accepting.{judgeSector}
 
 -- An outcome whose answer is not 0 is a refusal, and what would follow is not reached.
 pub refusal-stays : {A B : Type 0} (j : Judged A) (k : A → Judged B) → (answerOf j .number ≡ 0 → ⊥) → answerOf (then j k) ≡ answerOf j
@@ -90,7 +89,7 @@ then-same (refused a) k l h = refl
 -- A later span is good where its answer is 0.
 later-good : (h : Home) (i : ℕ) (x : Settled) (p : ℕ) (last : Bool) (g : List ℕ) → answerOf (judgeSector h (suc i) x p last (drop 8 g)) .number ≡ 0
     → readSpan h (suc i) x p last g ≡ good (sectorIn false (drop 8 g))
-unfolding readSpan judgeSector
+unfolding readSpan
 later-good h i x p last g z = sector-zero h (suc i) x p last (drop 8 g) z
 
 -- B8 in a later position is that of the second position after it.
@@ -102,7 +101,7 @@ sequence-two i f =
 
 -- A later span is read alike two positions later.
 span-two : (h : Home) (i : ℕ) (x : Settled) (p : ℕ) (last : Bool) (g : List ℕ) → readSpan h (suc i) x p last g ≡ readSpan h (suc (suc (suc i))) x p last g
-unfolding readSpan judgeCount countFieldsRight countFlagRight
+unfolding readSpan judgeSector judgeCount countFieldsRight countFlagRight
 span-two h i x p last g = rw (sequence-two i (getD (drop 8 g) 0 0))
 
 -- And so are later spans.
@@ -122,7 +121,7 @@ module _ (h : Home) (i : ℕ) (a : Address) (p : ℕ) (g : List ℕ) (gs : List 
   -- The first of them is refused by b.
   pub spans-refused : (b : Answer) → b ≡ answerOf (judgeSector h (suc i) (settled a) p (none gs) (drop 8 g)) → (b .number ≡ 0 → ⊥)
       → b ≡ answerOf (readSpans h (suc i) (settled a) p (g ∷ gs))
-  unfolding readSpans readSpan judgeSector
+  unfolding readSpans readSpan
   spans-refused b e n = e ∙ sym (refusal-stays (readSpan h (suc i) (settled a) p (none gs) g) _ (λ z. n (ap (λ (a : Answer). a .number) e ∙ z)))
 
   -- The first of them is good, by the answer b.

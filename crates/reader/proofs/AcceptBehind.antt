@@ -14,14 +14,14 @@ use Rattle.format.specs.Opening.{startsWith, plainOpening}
 use Rattle.format.specs.Home.{Home, judgeHome, firstCountPlace}
 use Rattle.format.specs.Count.{Settled, unsettled, countNumber}
 use Rattle.format.specs.Span.{beforeOpening, laterSpans, spans, none}
-use Rattle.format.specs.Sector.{Sector, openingLength, isFirst, sectorIn, settle, readSpan}
-use Rattle.format.specs.Accept.{judgeMarks, readSpans, Placed, placedFrom, among, judgeNumbers, Accepted, spansOf, firstCountEnd, acceptCells, accept}
+use Rattle.format.specs.Sector.{Sector, openingLength, isFirst, sectorIn, settle, judgeSector, readSpan}
+use Rattle.format.specs.Accept.{judgeMarks, readSpans, Placed, placedFrom, among, judgeNumbers, Accepted, spansOf, firstCountEnd, judgeBehind, acceptCells, accept}
 use Rattle.format.proofs.Judged.{and-both}
 use Rattle.format.proofs.ReadSector.{read-inv}
 use Rattle.format.proofs.ReadsAs.{Reads, read-reads, reads-read}
 use Rattle.format.proofs.Marks.{marks-clean}
 use Rattle.format.proofs.StrayMark.{marks-stray}
-use Rattle.reader.specs.Accepting.{judgeSector, Unstrayed, numbersIn, judgeBehind}
+use Rattle.reader.specs.Accepting.{Unstrayed, numbersIn}
 use Rattle.reader.proofs.AcceptAnswers.{refusal-stays, require-zero, answer-then, sector-zero}
 use Rattle.reader.proofs.AcceptFirst.{opens-first}
 
@@ -32,7 +32,7 @@ then-zero (refused a) k e = e
 
 -- A span is good where its answer is 0.
 read-zero : (h : Home) (i : ℕ) (x : Settled) (p : ℕ) (last : Bool) (g : List ℕ) → answerOf (readSpan h i x p last g) .number ≡ 0 → (s : Sector) × (readSpan h i x p last g ≡ good s)
-unfolding readSpan judgeSector
+unfolding readSpan
 read-zero h zero x p last g e =
     let o = require-zero (startsWith plainOpening g) (firstCountMissing p) (judgeSector h 0 x p last (drop 6 g)) (λ q. omega arith) e in
     (sectorIn true (drop 6 g), rw (o .0) (sector-zero h 0 x p last (drop 6 g) (o .1)))
@@ -155,25 +155,8 @@ behind-zero h c z =
 
 -- A track is accepted by its home and what is behind it.
 accept-behind : (h : Home) (c : List ℕ) → judgeHome c ≡ good h → acceptCells c ≡ then (judgeBehind h c) (λ xs. good (record { home = h; sectors = xs }))
-unfolding acceptCells judgeBehind
-accept-behind h c e = rw e (go (judgeMarks (firstCountEnd (h .place)) 0 0 c) (readSpans h 0 unsettled p (spansOf h c)))
-  where
-    p : ℕ
-    p = firstCountPlace (h .place)
-
-    whole : List Placed → Accepted
-    whole xs = record { home = h; sectors = xs }
-
-    last : (j : Judged (Unit {0})) (xs : List Placed) → then j (λ _. good (whole xs)) ≡ then (then j (λ _. good xs)) (λ ys. good (whole ys))
-    last (good u) xs = refl
-    last (refused a) xs = refl
-
-    go : (j : Judged (Unit {0})) (k : Judged (List Sector))
-        → then j (λ _. then k (λ ss. then (judgeNumbers [] (placedFrom p (spansOf h c) ss)) (λ _. good (whole (placedFrom p (spansOf h c) ss)))))
-        ≡ then (then j (λ _. then k (λ ss. then (judgeNumbers [] (placedFrom p (spansOf h c) ss)) (λ _. good (placedFrom p (spansOf h c) ss))))) (λ ys. good (whole ys))
-    go (refused a) k = refl
-    go (good u) (refused a) = refl
-    go (good u) (good ss) = last (judgeNumbers [] (placedFrom p (spansOf h c) ss)) (placedFrom p (spansOf h c) ss)
+unfolding acceptCells
+accept-behind h c e = rw e
 
 -- What is handed on of an accepted track: its home.
 abbrev homeOnly : Judged Accepted → Judged Home

@@ -14,7 +14,7 @@ use Rattle.format.specs.Address.{Address, addressIn}
 use Rattle.format.specs.Home.{Home}
 use Rattle.format.specs.Count.{unsettled, settled}
 use Rattle.format.specs.Span.{runsToIndex, spanLength, afterOpening, beforeOpening, laterSpans, spans, joined, none}
-use Rattle.format.specs.Sector.{sectorIn, settle, readSpan}
+use Rattle.format.specs.Sector.{sectorIn, settle, judgeSector, readSpan}
 use Rattle.format.specs.Accept.{readSpans}
 use Rattle.format.proofs.Judged.{and-both}
 use Rattle.format.proofs.Shape.{cleanSpan, cleanSpans, FirstReaches}
@@ -24,7 +24,7 @@ use Rattle.format.proofs.Marks.{marks-clean}
 use Rattle.format.proofs.SpanAgrees.{span-agrees}
 use Rattle.search.proofs.Cells.{length-cells, drop-cells}
 use Rattle.sector.proofs.Opening.{plain-length}
-use Rattle.reader.specs.Accepting.{Rest, Unstrayed, judgeSector}
+use Rattle.reader.specs.Accepting.{Rest, Unstrayed}
 use Rattle.reader.proofs.AcceptBytes.{part-all}
 use Rattle.reader.proofs.AcceptAnswers.{refusal-stays, answer-then, sector-zero}
 use Rattle.reader.proofs.AcceptSpans.{after-bytes, before-later}
@@ -104,7 +104,7 @@ module _ (h : Home) (p n : ℕ) (t m : List ℕ) (f : First p n t m) (last : Boo
 
   -- It is refused.
   pub first-refused : (b .number ≡ 0 → ⊥) → b ≡ answerOf (readSpans h 0 unsettled p (spans (drop p (cells t m))))
-  unfolding readSpans readSpan spans judgeSector
+  unfolding readSpans readSpan spans
   first-refused ne =
       rw (f .opened) (by-span ∙ sym (refusal-stays (judgeSector h 0 unsettled p (none (laterSpans (drop p (cells t m)))) (drop 6 (beforeOpening (drop p (cells t m))))) _ (λ z. ne (ap (λ (a : Answer). a .number) by-span ∙ z))))
 
@@ -112,7 +112,7 @@ module _ (h : Home) (p n : ℕ) (t m : List ℕ) (f : First p n t m) (last : Boo
   pub first-good : (a : Address) → a ≡ addressIn (take (p + n - (p + 6)) (drop (p + 6) t)) → b .number ≡ 0
       → answerOf (readSpans h 1 (settled a) (p + n) (laterSpans (cells (take (length t - (p + n)) (drop (p + n) t)) (take (length m - (p + n)) (drop (p + n) m)))))
       ≡ answerOf (readSpans h 0 unsettled p (spans (drop p (cells t m))))
-  unfolding readSpans readSpan spans judgeSector settle sectorIn
+  unfolding readSpans readSpan spans settle sectorIn
   first-good a k z =
       let d : List ℕ = drop p (cells t m) in
       let r : List ℕ = drop 6 (beforeOpening d) in

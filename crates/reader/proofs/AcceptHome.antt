@@ -7,12 +7,12 @@ use lib.ListN.{length, getD, take, drop, length-take, length-drop}
 use Rattle.format.specs.Answer.{homeMissing, homeCheckWrong}
 use Rattle.format.specs.Judged.{good, refused}
 use Rattle.format.specs.Lent.{cells}
-use Rattle.format.specs.Home.{findHome, homeBytes, homeAt, judgeHome}
+use Rattle.format.specs.Home.{findHome, homeBytes, homeOf, judgeHomeOf, judgeHome}
 use Rattle.format.proofs.Pairs.{length-bytes}
 use Rattle.sector.proofs.Opening.{closed-short}
 use Rattle.reader.specs.declared.home.HomeJudged.{HomeJudged}
 use Rattle.reader.specs.declared.home.HomeJudged.the-variants.{Right, Refused}
-use Rattle.reader.specs.Accepting.{homeOf, judgeHomeOf, homeStandsAt, homeInWindow}
+use Rattle.reader.specs.Accepting.{homeStandsAt, homeInWindow}
 use Rattle.reader.proofs.AcceptBytes.{taken-bytes}
 
 -- No home was found.
@@ -22,7 +22,7 @@ home-nowhere c e = rw e
 
 -- A home that was found is judged by the bytes that follow its opening.
 pub home-found : (c : List ℕ) (p : ℕ) → findHome c ≡ good p → judgeHome c ≡ judgeHomeOf p (homeBytes p c)
-unfolding judgeHome judgeHomeOf homeOf homeAt
+unfolding judgeHome
 home-found c p e = rw e
 
 few-bytes : (c : List ℕ) (p : ℕ) → length c < p + 14 → length (homeBytes p c) < 8

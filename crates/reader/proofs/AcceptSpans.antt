@@ -13,6 +13,7 @@ use Rattle.format.specs.Judged.{answerOf}
 use Rattle.format.specs.Address.{Address}
 use Rattle.format.specs.Home.{Home}
 use Rattle.format.specs.Count.{Settled, settled}
+use Rattle.format.specs.Sector.{judgeSector}
 use Rattle.format.specs.Accept.{readSpans}
 use Rattle.format.specs.Lent.{cells, unmarked}
 use Rattle.format.specs.Span.{runsToIndex, spanLength, afterOpening, beforeOpening, laterSpans, joined, none}
@@ -24,7 +25,7 @@ use Rattle.format.proofs.SpanAgrees.{span-agrees}
 use Rattle.format.proofs.CandidateBytes.{after-front}
 use Rattle.search.proofs.Run.{span-le}
 use Rattle.search.proofs.Cells.{length-cells, drop-cells}
-use Rattle.reader.specs.Accepting.{Rest, judgeSector}
+use Rattle.reader.specs.Accepting.{Rest}
 use Rattle.reader.proofs.AcceptBytes.{part-all}
 use Rattle.reader.proofs.AcceptAnswers.{spans-refused, spans-good}
 

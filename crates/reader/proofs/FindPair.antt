@@ -21,9 +21,8 @@ use Rattle.format.specs.Span.{afterOpening}
 use Rattle.format.specs.Sector.{judgeCount}
 use Rattle.format.specs.Accept.{Accepted, accept}
 use Rattle.format.specs.Find.{Wanted, find}
-use Rattle.format.specs.PairFind.{ofFirst, ofSecond, fromFirstCount, namedTrack, judgeFirst, pairAgrees, findOnSecond, findByFlag, pairFind}
+use Rattle.format.specs.PairFind.{ofFirst, ofSecond, fromFirstCount, namedTrack, judgeFirstCount, judgeFirst, pairAgrees, findOnSecond, findByFlag, pairFind}
 use Rattle.sector.proofs.Test.{eqb-comm, and-false}
-use Rattle.reader.specs.Pairing.{countJudged}
 use Rattle.reader.proofs.AcceptAnswers.{count-zero}
 
 -- An outcome whose answer is not 0 is that refusal.
@@ -37,18 +36,18 @@ module _ (h : Home) (c : List ℕ) where
   count = judgeCount h 0 unsettled (firstCountPlace (h .place)) (afterOpening 6 (fromFirstCount h c))
 
   -- It does not open.
-  pub count-missing : startsWith plainOpening (fromFirstCount h c) ≡ false → countJudged h c ≡ refused (firstCountMissing (firstCountPlace (h .place)))
-  unfolding countJudged
+  pub count-missing : startsWith plainOpening (fromFirstCount h c) ≡ false → judgeFirstCount h c ≡ refused (firstCountMissing (firstCountPlace (h .place)))
+  unfolding judgeFirstCount
   count-missing o = rw o
 
   -- It is refused by a.
-  pub count-refused : (a : Answer) → startsWith plainOpening (fromFirstCount h c) ≡ true → a ≡ answerOf count → (a .number ≡ 0 → ⊥) → countJudged h c ≡ refused a
-  unfolding countJudged
+  pub count-refused : (a : Answer) → startsWith plainOpening (fromFirstCount h c) ≡ true → a ≡ answerOf count → (a .number ≡ 0 → ⊥) → judgeFirstCount h c ≡ refused a
+  unfolding judgeFirstCount
   count-refused a o e n = rw (o, refused-is count a e n)
 
   -- It is right.
-  pub count-right : (a : Answer) → startsWith plainOpening (fromFirstCount h c) ≡ true → a ≡ answerOf count → a .number ≡ 0 → countJudged h c ≡ good h
-  unfolding countJudged
+  pub count-right : (a : Answer) → startsWith plainOpening (fromFirstCount h c) ≡ true → a ≡ answerOf count → a .number ≡ 0 → judgeFirstCount h c ≡ good h
+  unfolding judgeFirstCount
   count-right a o e z =
       rw (o, count-zero h 0 unsettled (firstCountPlace (h .place)) (afterOpening 6 (fromFirstCount h c)) (ap (λ (b : Answer). b .number) (sym e) ∙ z))
 
@@ -62,8 +61,8 @@ module _ (t m : List ℕ) where
   unfolding judgeFirst
   first-refused a l e = rw (l, e)
 
-  pub first-count : (h : Home) → lentForReading t m ≡ true → judgeHome (cells t m) ≡ good h → judgeFirst t m ≡ countJudged h (cells t m)
-  unfolding judgeFirst countJudged
+  pub first-count : (h : Home) → lentForReading t m ≡ true → judgeHome (cells t m) ≡ good h → judgeFirst t m ≡ judgeFirstCount h (cells t m)
+  unfolding judgeFirst
   first-count h l e = rw (l, e)
 
 -- The track that sector 0's count behind home h names, cell by cell.

@@ -16,9 +16,9 @@ use Rattle.format.specs.Count.{countNumber, keyLength, dataLength}
 use Rattle.format.specs.Block.{blocksFit, keyRight, dataRight}
 use Rattle.format.specs.Sector.{openingLength}
 use Rattle.format.specs.Candidate.{Candidate, candidates}
-use Rattle.format.specs.Find.{Wanted, theKey, theData, Part, partAt, carrying, only, keyPlace, dataPlace, wantedPart, findCells, find}
+use Rattle.format.specs.Find.{Wanted, theKey, theData, Part, partAt, carrying, only, keyPlace, dataPlace, wantedPart, candidatePart, findCells, find}
 use Rattle.format.proofs.FindParts.{offsetOf, lengthOf, block-fits}
-use Rattle.reader.specs.Finding.{asCandidate, asPart, candidatePart}
+use Rattle.reader.specs.Finding.{asCandidate, asPart}
 use Rattle.reader.specs.declared.candidate.Candidate.{Candidate as CandidateCode}
 use Rattle.reader.specs.declared.finding.Part.{Part as PartCode}
 use Rattle.reader.proofs.CandidateNext.{candidatesAt, carrying-first, none-first}
@@ -55,7 +55,7 @@ module _ (s : ℕ) (w : Wanted) (c : List ℕ) (h : Judged ℕ) (f : h ≡ findH
 
     -- It is the only one.
     pub find-only : [] ≡ take 1 (carrying s (candidatesAt h (x .place + 1) c)) → findCells s w c ≡ candidatePart w x
-    unfolding findCells only candidatePart
+    unfolding findCells only
     find-only k = rw (both, none-first (carrying s (candidatesAt h (x .place + 1) c)) k)
 
 -- The part asked for of the candidate x.

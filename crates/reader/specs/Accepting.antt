@@ -1,19 +1,17 @@
 -- What judging a home and a whole track gives.
 use mathlib.Core.Path.{_≡_}
 use Prim.Native.Nat.{ℕ, suc, _+_, _≤_}
-use mathlib.Core.Bool.{Bool, true, not}
+use mathlib.Core.Bool.{true, not}
 use mathlib.Core.List.{List, [], _∷_}
-use lib.ListN.{length, getD, drop}
-use Rattle.format.specs.Answer.{answerAt, homeCheckWrong, homeFieldsWrong, sectorRepeated}
-use Rattle.format.specs.Judged.{Judged, good, refused, then, require}
+use lib.ListN.{length, drop}
+use Rattle.format.specs.Answer.{answerAt, sectorRepeated}
+use Rattle.format.specs.Judged.{Judged, good, refused, require}
 use Rattle.format.specs.Lent.{cells}
-use Rattle.format.specs.Opening.{closedAfter}
-use Rattle.format.specs.Address.{addressIn}
-use Rattle.format.specs.Home.{Home, homeFieldsRight, firstCountPlace}
-use Rattle.format.specs.Count.{Settled, unsettled, countNumber}
+use Rattle.format.specs.Home.{Home}
+use Rattle.format.specs.Count.{countNumber}
 use Rattle.format.specs.Span.{beforeOpening, laterSpans}
-use Rattle.format.specs.Sector.{Sector, openingLength, isFirst, judgeCount, readBlocks}
-use Rattle.format.specs.Accept.{judgeMarks, readSpans, Placed, placedFrom, among, judgeNumbers, spansOf, firstCountEnd}
+use Rattle.format.specs.Sector.{openingLength, isFirst}
+use Rattle.format.specs.Accept.{judgeMarks, among}
 use Rattle.format.proofs.Shape.{cleanSpans}
 use Rattle.sector.specs.As.{asHome}
 use Rattle.reader.specs.declared.home.HomeJudged.{HomeJudged}
@@ -36,21 +34,6 @@ abbrev pub homeInWindow : HomeJudged → Type 0
 homeInWindow (Right h) = (23 ≤ h .place) × (h .place ≤ 37)
 homeInWindow (Refused a) = Unit {0}
 
--- The home at p of the bytes r that follow its opening.
-unfoldable pub homeOf : ℕ → List ℕ → Home
-homeOf p r = record { place = p; flag = getD r 0 0; address = addressIn r }
-
--- What is judged of it: 3 where its check or closing byte is wrong, then 4.
-unfoldable pub judgeHomeOf : ℕ → List ℕ → Judged Home
-judgeHomeOf p r =
-    require (closedAfter 5 r) (homeCheckWrong p)
-    (require (homeFieldsRight (homeOf p r)) (homeFieldsWrong p)
-    (good (homeOf p r)))
-
--- A sector in position i and at place p by what follows its count's opening: its count, then its blocks.
-unfoldable pub judgeSector : Home → ℕ → Settled → ℕ → Bool → List ℕ → Judged Sector
-judgeSector h i x p last r = then (judgeCount h i x p r) (λ _. readBlocks (isFirst i) p last r)
-
 -- What is left of a track from place p on: nothing, or it starts with a whole opening; and no mark of it is stray.
 pub record Rest (p : ℕ) (t m : List ℕ) : Type 0 where
   pub lengths : length m ≡ length t
@@ -71,15 +54,6 @@ numbersIn seen i p [] = good tt
 numbersIn seen i p (g ∷ gs) =
     let n = countNumber (drop (openingLength (isFirst i)) g) in
     require (not (among n seen)) (sectorRepeated p) (numbersIn (n ∷ seen) (suc i) (p + length g) gs)
-
--- The sectors of the track c behind its home h: 5, then sector by sector, last 13.
-unfoldable pub judgeBehind : Home → List ℕ → Judged (List Placed)
-judgeBehind h c =
-    then (judgeMarks (firstCountEnd (h .place)) 0 0 c) (λ _.
-    then (readSpans h 0 unsettled (firstCountPlace (h .place)) (spansOf h c)) (λ ss.
-    let xs = placedFrom (firstCountPlace (h .place)) (spansOf h c) ss in
-    then (judgeNumbers [] xs) (λ _.
-    good xs)))
 
 -- The home of an accepted track, or the answer that refuses the track.
 abbrev pub judgedTrack : JudgedCode → Judged Home

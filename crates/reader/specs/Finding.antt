@@ -4,13 +4,12 @@ use mathlib.Core.Bool.{Bool}
 use mathlib.Core.List.{List, [], _∷_}
 use lib.ListN.{take, drop}
 use Rattle.crc.specs.Check.{pick}
-use Rattle.format.specs.Answer.{Answer, answerAt, spanTooShort}
-use Rattle.format.specs.Judged.{Judged, good, refused, require}
-use Rattle.format.specs.Block.{blocksFit}
+use Rattle.format.specs.Answer.{Answer, answerAt}
+use Rattle.format.specs.Judged.{Judged, good, refused}
 use Rattle.format.specs.Sector.{openingLength}
 use Rattle.format.specs.Candidate.{Candidate, firstOpensAt, candidateAt, countPasses, standsAt}
 use Rattle.format.specs.Walk.{Visited}
-use Rattle.format.specs.Find.{Wanted, theKey, theData, Part, partOf, wantedPart}
+use Rattle.format.specs.Find.{Wanted, theKey, theData, Part, partOf}
 use Rattle.format.specs.declared.Answer.{Answer as AnswerCode}
 use Rattle.reader.specs.declared.candidate.Candidate.{Candidate as CandidateCode}
 use Rattle.reader.specs.declared.candidate.Standing.{Standing}
@@ -70,10 +69,6 @@ asWanted TheData = theData
 -- The part of the track.
 abbrev pub asPart : PartCode → Part
 asPart x = record { start = x .start; size = x .size }
-
--- The part asked for of a candidate: 9 where its blocks and the least gap do not fit its span, then 10 or 11.
-unfoldable pub candidatePart : Wanted → Candidate → Judged Part
-candidatePart w x = require (blocksFit (x .last) (x .rest)) (spanTooShort (x .place)) (wantedPart w x)
 
 -- What Find gives: the part, or its refusal.
 abbrev pub judgedPart : Outcome → Judged Part

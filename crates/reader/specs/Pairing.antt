@@ -3,22 +3,9 @@ use Prim.Native.Nat.{ℕ}
 use mathlib.Core.List.{List}
 use lib.Dec.{eqb}
 use Rattle.crc.specs.Check.{pick}
-use Rattle.format.specs.Answer.{firstCountMissing}
-use Rattle.format.specs.Judged.{Judged, good, then, require}
-use Rattle.format.specs.Opening.{startsWith, plainOpening}
-use Rattle.format.specs.Home.{Home, firstCountPlace}
-use Rattle.format.specs.Count.{unsettled}
-use Rattle.format.specs.Span.{afterOpening}
-use Rattle.format.specs.Sector.{judgeCount}
-use Rattle.format.specs.PairFind.{Paired, fromFirstCount}
+use Rattle.format.specs.PairFind.{Paired}
 use Rattle.reader.specs.declared.pair.Paired.{Paired as PairedCode}
 use Rattle.reader.specs.Finding.{judgedPart, partWithin, handedOut}
-
--- The home h of a track c whose count of sector 0 is right: 6, 9 for the count, 7, 8.
-unfoldable pub countJudged : Home → List ℕ → Judged Home
-countJudged h c =
-    require (startsWith plainOpening (fromFirstCount h c)) (firstCountMissing (firstCountPlace (h .place)))
-    (then (judgeCount h 0 unsettled (firstCountPlace (h .place)) (afterOpening 6 (fromFirstCount h c))) (λ _. good h))
 
 -- The outcome, and which track it speaks of.
 abbrev pub asPaired : PairedCode → Paired

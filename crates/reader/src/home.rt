@@ -1,9 +1,9 @@
 // Home of a lent track: its place, check, closing byte and fields.
 ghost use mathlib.Core.Path.{_≡_};
 ghost use Rattle.format.specs.Lent.{cells};
-ghost use Rattle.format.specs.Home.{judgeHome};
+ghost use Rattle.format.specs.Home.{homeOf, judgeHomeOf, judgeHome};
 ghost use Rattle.sector.specs.As.{asHome};
-ghost use Rattle.reader.specs.Accepting.{judgedHome, homeStandsAt, homeInWindow, homeOf, judgeHomeOf};
+ghost use Rattle.reader.specs.Accepting.{judgedHome, homeStandsAt, homeInWindow};
 use sector::Home;
 
 // The home of a track, or the answer that refuses it.

@@ -18,9 +18,9 @@ use Rattle.format.specs.Span.{afterOpening}
 use Rattle.format.specs.Sector.{openingLength, judgeCount}
 use Rattle.format.specs.Accept.{Accepted, accept}
 use Rattle.format.specs.Candidate.{Candidate, firstOpensAt, candidateAt, standsAt, candidatesFrom, candidates}
-use Rattle.format.specs.Find.{Wanted, theKey, theData, Part, partAt, carrying, only, keyPlace, dataPlace, wantedPart, findCells, find}
+use Rattle.format.specs.Find.{Wanted, theKey, theData, Part, partAt, carrying, only, keyPlace, dataPlace, wantedPart, candidatePart, findCells, find}
 use Rattle.format.specs.Walk.{Visited, visited, nextFrom, step}
-use Rattle.format.specs.PairFind.{Paired, fromFirstCount, judgeFirst, pairAgrees, findOnSecond, findByFlag, pairFind}
+use Rattle.format.specs.PairFind.{Paired, fromFirstCount, judgeFirstCount, judgeFirst, pairAgrees, findOnSecond, findByFlag, pairFind}
 use Rattle.format.proofs.Judged.{cases}
 use Rattle.format.proofs.Opening.{unmarked-at}
 use Rattle.format.proofs.HomeLocal.{home-window}
@@ -98,8 +98,8 @@ wanted-inside theData x a f =
 
 -- The part asked for of the only candidate.
 only-inside : (w : Wanted) (xs : List Candidate) → AllSmall xs
-    → Inside (then (only xs) (λ x. require (blocksFit (x .last) (x .rest)) (spanTooShort (x .place)) (wantedPart w x)))
-unfolding only
+    → Inside (then (only xs) (candidatePart w))
+unfolding only candidatePart
 only-inside w [] a = (omega arith, omega arith)
 only-inside w (x ∷ []) a = inside-require (blocksFit (x .last) (x .rest)) (spanTooShort (x .place)) _ (omega arith, a .0 .place-few) (wanted-inside w x (a .0))
 only-inside w (x ∷ y ∷ r) a = (omega arith, a .1 .0 .place-few)
@@ -113,7 +113,7 @@ find-inside s w t m =
 
 -- The first track of a pair.
 first-within : (t m : List ℕ) → Within (judgeFirst t m)
-unfolding judgeFirst
+unfolding judgeFirst judgeFirstCount
 first-within t m =
     let c : List ℕ = cells t m in
     within-require (lentForReading t m) lentWrong _ (omega arith, omega arith) (λ _.

@@ -11,12 +11,12 @@ use Rattle.format.specs.Answer.{Answer, lentWrong, homeCheckWrong, homeFieldsWr
 use Rattle.format.specs.Judged.{Judged, good, refused, then, require, answerOf}
 use Rattle.format.specs.Lent.{lengthRight, lentForReading, cells}
 use Rattle.format.specs.Opening.{startsWith, plainOpening, closedAfter}
-use Rattle.format.specs.Home.{Home, homeFrom, findHome, homeBytes, homeAt, homeFieldsRight, judgeHome, firstCountPlace}
+use Rattle.format.specs.Home.{Home, homeFrom, findHome, homeBytes, homeOf, homeFieldsRight, judgeHomeOf, judgeHome, firstCountPlace}
 use Rattle.format.specs.Count.{Settled, unsettled, countFits, countClosed, countFieldsRight}
 use Rattle.format.specs.Block.{keyOffset, dataOffset, blocksFit, keyRight, dataRight}
 use Rattle.format.specs.Span.{joined, none, spans}
-use Rattle.format.specs.Sector.{Sector, openingLength, settle, judgeCount, readBlocks, readSpan}
-use Rattle.format.specs.Accept.{judgeMarks, readSpans, placedFrom, among, judgeNumbers, spansOf, firstCountEnd, acceptCells, accept}
+use Rattle.format.specs.Sector.{Sector, openingLength, settle, judgeCount, readBlocks, judgeSector, readSpan}
+use Rattle.format.specs.Accept.{judgeMarks, readSpans, placedFrom, among, judgeNumbers, spansOf, firstCountEnd, judgeBehind, acceptCells, accept}
 use Rattle.format.specs.Find.{theKey, theData}
 use Rattle.format.proofs.Judged.{cases, and-both}
 use Rattle.format.proofs.HomeLocal.{home-window}
@@ -68,12 +68,12 @@ missing-within (suc n) q c =
 
 -- Home.
 pub home-within : (c : List ℕ) → Within (judgeHome c)
-unfolding judgeHome findHome
+unfolding judgeHome judgeHomeOf findHome
 home-within c =
     within-then (homeFrom 15 23 c) _ (missing-within 15 23 c) (λ p e.
     let l = found-below 15 23 c p e in
     within-require (closedAfter 5 (homeBytes p c)) (homeCheckWrong p) _ (omega arith, omega arith) (λ _.
-    within-require (homeFieldsRight (homeAt p c)) (homeFieldsWrong p) _ (omega arith, omega arith) (λ _. (omega arith, omega arith))))
+    within-require (homeFieldsRight (homeOf p (homeBytes p c))) (homeFieldsWrong p) _ (omega arith, omega arith) (λ _. (omega arith, omega arith))))
 
 -- The stray mark stands on the track.
 marks-within : (e : ℕ) (c : List ℕ) → length c ≤ 4002 → Within (judgeMarks e 0 0 c)
@@ -104,7 +104,7 @@ blocks-within first p last r k l =
 
 -- A sector in its span.
 span-within : (h : Home) (i : ℕ) (x : Settled) (p : ℕ) (last : Bool) (g : List ℕ) → p + length g ≤ 4002 → Within (readSpan h i x p last g)
-unfolding readSpan
+unfolding readSpan judgeSector
 span-within h zero x p last g l =
     within-require (startsWith plainOpening g) (firstCountMissing p) _ (omega arith, omega arith) (λ _.
     within-then (judgeCount h 0 x p (drop 6 g)) _ (count-within h 0 x p (drop 6 g) (omega arith)) (λ _ _.
@@ -133,18 +133,23 @@ numbers-within seen p (g ∷ gs) (s ∷ ss) l =
     within-require (not (among (s .number) seen)) (sectorRepeated p) _ (omega arith, omega arith) (λ _.
     numbers-within (s .number ∷ seen) (p + length g) gs ss (omega arith))
 
--- The cells of a track.
-cells-within : (c : List ℕ) → length c ≤ 4002 → Within (acceptCells c)
-unfolding acceptCells
-cells-within c l =
-    within-then (judgeHome c) _ (home-within c) (λ h e.
-    let w = home-window c h e in
+-- What stands behind home.
+behind-within : (h : Home) (c : List ℕ) → length c ≤ 4002 → h .place ≤ 37 → Within (judgeBehind h c)
+unfolding judgeBehind
+behind-within h c l w =
     let p : ℕ = firstCountPlace (h .place) in
     let j = ap length (joined-spans (drop p c)) in
     let d : p + length (joined (spans (drop p c))) ≤ 4002 = omega (arith, j, length-drop p c) in
     within-then (judgeMarks (firstCountEnd (h .place)) 0 0 c) _ (marks-within (firstCountEnd (h .place)) c l) (λ _ _.
     within-then (readSpans h 0 unsettled p (spansOf h c)) _ (spans-within h 0 unsettled p (spansOf h c) d) (λ ss _.
-    within-then (judgeNumbers [] (placedFrom p (spansOf h c) ss)) _ (numbers-within [] p (spansOf h c) ss d) (λ _ _. (omega arith, omega arith)))))
+    within-then (judgeNumbers [] (placedFrom p (spansOf h c) ss)) _ (numbers-within [] p (spansOf h c) ss d) (λ _ _. (omega arith, omega arith))))
+
+-- The cells of a track.
+cells-within : (c : List ℕ) → length c ≤ 4002 → Within (acceptCells c)
+unfolding acceptCells
+cells-within c l =
+    within-then (judgeHome c) _ (home-within c) (λ h e.
+    within-then (judgeBehind h c) _ (behind-within h c l (home-window c h e .1)) (λ _ _. (omega arith, omega arith)))
 
 -- Accept gives a row of the table, and no place beyond 4,002.
 pub accept-within : (t m : List ℕ) → Within (accept t m)

@@ -11,12 +11,12 @@ use Rattle.format.specs.Lent.{lengthRight, marksLegal, lentForWriting, lentForR
 use Rattle.format.specs.Opening.{opens, closing, closedAfter}
 use Rattle.format.specs.Flag.{homeFlagRight, sequenceRight, countFlagRight, namesItself}
 use Rattle.format.specs.Address.{addressIn, addressBytes, addressInRange, sameAddress, addressRight}
-use Rattle.format.specs.Home.{homeFrom, findHome, homeBytes, homeAt, homeFieldsRight, judgeHome}
+use Rattle.format.specs.Home.{homeFrom, findHome, homeBytes, homeOf, homeFieldsRight, judgeHomeOf, judgeHome}
 use Rattle.format.specs.Count.{countFits, countClosed, countAddressRight, countFieldsRight}
 use Rattle.format.specs.Block.{keySize, dataSize, dataOffset, blockEnd, leastGap, blocksFit, blockRight, blockInfo, keyRight, dataRight, keyInfo, dataInfo}
 use Rattle.format.specs.Span.{unmarkedRun, runsToIndex, spanLength, afterOpening, beforeOpening, laterSpans, spans}
-use Rattle.format.specs.Sector.{sectorIn, settle, judgeCount, readBlocks, readSpan}
-use Rattle.format.specs.Accept.{judgeMarks, readSpans, placedFrom, among, judgeNumbers, acceptCells, accept}
+use Rattle.format.specs.Sector.{sectorIn, settle, judgeCount, readBlocks, judgeSector, readSpan}
+use Rattle.format.specs.Accept.{judgeMarks, readSpans, placedFrom, among, judgeNumbers, judgeBehind, acceptCells, accept}
 use Rattle.format.specs.Written.{gapOne, countInfo, writtenBlock, writtenKey, writtenData, countOpening, writtenSector, asPair, gapAfter, reach, writtenSpans, writtenBehind}
 use Rattle.format.specs.Blank.{contentRight, namedBy, blankRight, writtenHead, blankSector, blank}
 use Rattle.format.specs.Add.{bothLent, endOf, fromNumber, judgeAbsent, addedFlag, addedSector, addedTo, addCells, add}
@@ -48,10 +48,10 @@ tables-pass : (allHold starred && allHold further) ≡ true
 unfolding digits coefficients divisor bringDown remainder checkBytes
     lengthRight marksLegal lentForWriting lentForReading cells bytesOf marksOf opens closing closedAfter
     homeFlagRight sequenceRight countFlagRight namesItself addressIn addressBytes addressInRange sameAddress addressRight
-    homeFrom findHome homeBytes homeAt homeFieldsRight judgeHome countFits countClosed countAddressRight countFieldsRight
+    homeFrom findHome homeBytes homeOf homeFieldsRight judgeHomeOf judgeHome countFits countClosed countAddressRight countFieldsRight
     keySize dataSize dataOffset blockEnd leastGap blocksFit blockRight blockInfo keyRight dataRight keyInfo dataInfo
-    unmarkedRun runsToIndex spanLength afterOpening beforeOpening laterSpans spans sectorIn settle judgeCount readBlocks readSpan
-    judgeMarks readSpans placedFrom among judgeNumbers acceptCells accept
+    unmarkedRun runsToIndex spanLength afterOpening beforeOpening laterSpans spans sectorIn settle judgeCount readBlocks judgeSector readSpan
+    judgeMarks readSpans placedFrom among judgeNumbers judgeBehind acceptCells accept
     gapOne countInfo writtenBlock writtenKey writtenData countOpening writtenSector asPair gapAfter reach writtenSpans writtenBehind
     contentRight namedBy blankRight writtenHead blankSector blank bothLent endOf fromNumber judgeAbsent addedFlag addedSector addedTo addCells add
     address blankOf twoSectors acceptOf numbers placesIn places placesOf sectorOf byHand answerByHand answerOfZeros sameNumbers allHold starred further

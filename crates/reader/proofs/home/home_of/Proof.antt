@@ -1,5 +1,5 @@
 -- `home_of` meets its contract: flag and address are read from the bytes.
-use Rattle.reader.specs.Accepting.{homeOf}
+use Rattle.format.specs.Home.{homeOf}
 use borrow.Author.Needs.{needs}
 use Rattle.reader.proofs.home.home_of.Statement.{statement}
 use Rattle.reader.proofs.home.home_of.Tie as tie

@@ -1,8 +1,7 @@
 -- `judge_fields` meets its contract: the two tests in turn.
 use mathlib.Core.Path.{sym, ap, _∙_}
 use Rattle.format.specs.Judged.{Judged, refused}
-use Rattle.format.specs.Home.{Home}
-use Rattle.reader.specs.Accepting.{judgeHomeOf}
+use Rattle.format.specs.Home.{Home, judgeHomeOf}
 use Rattle.reader.proofs.AcceptHome.{place-of}
 use borrow.Author.Needs.{needs}
 use Rattle.reader.proofs.home.judge_fields.Statement.{statement}

@@ -3,8 +3,7 @@ use mathlib.Core.Path.{sym, ap, _∙_}
 use native.Mathlib.Omega.{arith}
 use Rattle.format.specs.Judged.{Judged, refused}
 use Rattle.format.specs.Lent.{cells}
-use Rattle.format.specs.Home.{Home}
-use Rattle.reader.specs.Accepting.{judgeHomeOf}
+use Rattle.format.specs.Home.{Home, judgeHomeOf}
 use Rattle.reader.proofs.AcceptHome.{home-nowhere, home-found, home-short, home-bytes, in-window}
 use borrow.Author.Needs.{needs}
 use Rattle.reader.proofs.home.judge_home.Statement.{statement}
