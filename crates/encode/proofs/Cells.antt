@@ -1,15 +1,16 @@
 -- The bytes and the marks of cells: joined, unmarked, and of a count's opening.
 use mathlib.Core.Path.{_≡_, refl, ap, ap₂}
-use Prim.Native.Nat.{ℕ, suc, _/_, _%_, _<_}
+use Prim.Native.Nat.{ℕ, _/_, _%_}
 use native.Mathlib.Omega.{arith}
 use mathlib.Core.Bool.{true}
 use mathlib.Core.List.{List, [], _∷_, _++_}
-use lib.ListN.{length, getD, replicate}
+use lib.ListN.{length, replicate}
 use lib.Dec.{ltb}
 use borrow.Author.Tests.{ltb-true}
 use Rattle.format.specs.Lent.{bytesOf, marksOf, unmarked}
 use Rattle.format.proofs.Judged.{and-both}
-use Rattle.format.proofs.Opening.{unmarked-cons}
+pub use Rattle.format.proofs.Opening.{unmarked-below as unmarked-bytes}
+pub use Rattle.format.proofs.Pairs.{bytes-unmarked}
 
 -- The bytes of two lists of cells are joined as the cells are.
 pub bytes-append : (xs ys : List ℕ) → bytesOf (xs ++ ys) ≡ bytesOf xs ++ bytesOf ys
@@ -23,15 +24,6 @@ unfolding marksOf
 marks-append [] ys = refl
 marks-append (x ∷ xs) ys = ap (λ (l : List ℕ). x / 256 ∷ l) (marks-append xs ys)
 
--- The bytes of unmarked cells are the cells.
-pub bytes-unmarked : (xs : List ℕ) → unmarked xs ≡ true → bytesOf xs ≡ xs
-unfolding bytesOf unmarked
-bytes-unmarked [] u = refl
-bytes-unmarked (x ∷ xs) u =
-    let h = and-both (ltb x 256) (unmarked xs) u in
-    let e : x % 256 ≡ x = omega (arith, ltb-true x 256 (h .0)) in
-    ap₂ (λ (z : ℕ) (zs : List ℕ). z ∷ zs) e (bytes-unmarked xs (h .1))
-
 -- The marks of unmarked cells are 0.
 pub marks-unmarked : (xs : List ℕ) → unmarked xs ≡ true → marksOf xs ≡ replicate (length xs) 0
 unfolding marksOf unmarked
@@ -40,9 +32,3 @@ marks-unmarked (x ∷ xs) u =
     let h = and-both (ltb x 256) (unmarked xs) u in
     let e : x / 256 ≡ 0 = omega (arith, ltb-true x 256 (h .0)) in
     ap₂ (λ (z : ℕ) (zs : List ℕ). z ∷ zs) e (marks-unmarked xs (h .1))
-
--- Bytes are unmarked cells.
-pub unmarked-bytes : (xs : List ℕ) → ((i : ℕ) → getD xs i 0 < 256) → unmarked xs ≡ true
-unfolding unmarked
-unmarked-bytes [] f = refl
-unmarked-bytes (x ∷ xs) f = unmarked-cons x xs (f 0) (unmarked-bytes xs (λ i. f (suc i)))

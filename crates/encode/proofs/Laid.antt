@@ -7,8 +7,10 @@ use native.Mathlib.Omega.{arith}
 use native.Mathlib.Nat.{add-assoc, add-zero, zero-add}
 use native.Mathlib.Numerals.{add-one}
 use lib.ListN.{length, take, drop, set, getD, replicate, length-replicate, length-drop, length-append, take-append-drop, drop-of-length-le, replicate-append-replicate}
-use lib.Seq.{take-all, take-suc, drop-drop, take-at, drop-at, set-split, length-take-le}
+use lib.Seq.{take-suc, drop-drop, take-at, drop-at, set-split, length-take-le}
 use borrow.Rule.Slice.PartMut.{putMid, put-same}
+use Rattle.format.proofs.Lists.{part-all}
+pub use Rattle.format.proofs.Lists.{part-all as part-rest}
 use Rattle.encode.specs.Laid.{laidOver, laidAt, laidIf, laidAtIf}
 
 -- Laid at place 0 is laid over the front.
@@ -68,10 +70,6 @@ laid-store a n b xs old e h =
     let k : a ≤ length old = omega arith in
     rw (← e) (laid-one (a + length xs) b (laidAt a xs old) g ∙ laid-behind a xs (b ∷ []) old k)
 
--- A part that is lent from place a on to the end is what is left behind a.
-pub part-rest : (a : ℕ) (s : List ℕ) → take (length s - a) (drop a s) ≡ drop a s
-part-rest a s = take-all (length s - a) (drop a s) (omega (arith, length-drop a s))
-
 -- Nothing follows such a part.
 none-after : (a : ℕ) (s : List ℕ) → drop (length s - a) (drop a s) ≡ []
 none-after a s = drop-of-length-le (drop a s) {i = length s - a} (omega (arith, length-drop a s))
@@ -79,7 +77,7 @@ none-after a s = drop-of-length-le (drop a s) {i = length s - a} (omega (arith, 
 -- A list laid over the front of such a part is laid at place a when the part is back.
 pub laid-back : (a : ℕ) (xs old ys : List ℕ) → ys ≡ laidOver xs (take (length old - a) (drop a old)) → putMid a (length old - a) old ys ≡ laidAt a xs old
 unfolding laidOver laidAt
-laid-back a xs old ys q = rw (q, none-after a old, append-nil, part-rest a old, drop-drop)
+laid-back a xs old ys q = rw (q, none-after a old, append-nil, part-all a old, drop-drop)
 
 -- The same for a writer that answers: a refusal leaves the whole list.
 pub laid-back-if : (r : Bool) (a : ℕ) (xs old ys : List ℕ) → ys ≡ laidIf r xs (take (length old - a) (drop a old)) → putMid a (length old - a) old ys ≡ laidAtIf r a xs old

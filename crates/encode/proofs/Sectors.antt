@@ -9,20 +9,22 @@ use lib.Dec.{lit<}
 use borrow.Author.Tests.{le-leb, lt-leb, lt-ltb}
 use Rattle.format.specs.Lent.{bytesOf, marksOf, unmarked}
 use Rattle.format.specs.Opening.{closing}
-use Rattle.format.specs.Address.{Address, addressBytes}
+use Rattle.format.specs.Address.{addressBytes}
 use Rattle.format.specs.Sector.{Sector, openingLength}
 use Rattle.format.specs.Written.{homeGap, innerGap, countInfo, writtenBlock, writtenKey, writtenData, countOpening, writtenSector}
 use Rattle.format.specs.Blank.{contentRight, writtenHead}
 use Rattle.format.proofs.Opening.{unmarked-append, unmarked-replicate}
-use Rattle.format.proofs.Field.{unmarked-block, length-block, length-closing}
+use Rattle.format.proofs.Field.{unmarked-block, length-closing}
 use Rattle.format.proofs.Standing.{FitsCount, info-unmarked}
 use Rattle.format.proofs.WrittenRest.{writtenRest, written-form, rest-unmarked, length-rest}
 use Rattle.format.proofs.ReadBack.{length-written}
+use Rattle.format.proofs.Pairs.{bytes-unmarked}
+pub use Rattle.format.proofs.WrittenHome.{head-length}
 use Rattle.encode.specs.Room.{addressOf, sectorSize, bothFit, sectorFits}
 use Rattle.encode.specs.Bytes.{countBytes}
 use Rattle.encode.proofs.Room.{and-right, both-fit}
 use Rattle.encode.proofs.Openings.{length-opening}
-use Rattle.encode.proofs.Cells.{bytes-append, marks-append, bytes-unmarked, marks-unmarked}
+use Rattle.encode.proofs.Cells.{bytes-append, marks-append, marks-unmarked}
 
 -- What a written sector takes.
 pub sector-length : (s : Sector) → length (writtenSector s) ≡ sectorSize (s .first) (length (s .keyBytes)) (length (s .dataBytes))
@@ -85,11 +87,6 @@ module _ (s : Sector) (l k : ℕ) where
   sector-fits n q g h u v =
       rw (le-leb (length (s .keyBytes)) 255 g, le-leb (length (s .dataBytes)) 65535 h)
       (both-fit (length (writtenSector s)) l k (omega arith) (omega arith))
-
--- Home and the gaps before and after it take 55 bytes.
-pub head-length : (flag : ℕ) (a : Address) → length (writtenHead flag a) ≡ 55
-unfolding writtenHead addressBytes
-head-length flag a = omega (arith, length-append (writtenBlock (flag ∷ addressBytes a)) homeGap, length-block (flag ∷ addressBytes a))
 
 module _ (flag cylinder head : ℕ) (f : flag < 256) (c : cylinder < 65536) (h : head < 65536) where
   -- The information of home is unmarked.

@@ -5,8 +5,8 @@ use native.Mathlib.Nat.{le-of-suc-le-suc}
 use native.Mathlib.Omega.{arith}
 use mathlib.Core.Bool.{true}
 use mathlib.Core.List.{List, [], _∷_, _++_}
-use lib.ListN.{length, take, drop, length-drop, take-append-drop}
-use lib.Seq.{drop-drop}
+use lib.ListN.{length, take, drop, length-take, length-drop, take-append-drop}
+use lib.Seq.{take-at, drop-drop}
 use lib.Dec.{ltb, eqb}
 use borrow.Author.Tests.{ltb-true, eqb-true}
 use Rattle.format.specs.Lent.{cells, unmarked}
@@ -15,6 +15,7 @@ use Rattle.format.specs.Sector.{openingLength}
 use Rattle.format.specs.Candidate.{Candidate, candidates}
 use Rattle.format.proofs.Judged.{cases, and-both, and-make}
 use Rattle.format.proofs.Lists.{Member, drop-take}
+use Rattle.format.proofs.Pairs.{drop-cells}
 use Rattle.format.proofs.CandidateMeans.{candidate-means}
 
 -- The cells before the next mark are unmarked.
@@ -26,6 +27,12 @@ unmarked-run (suc n) (x ∷ c) l =
     cases (ltb x 256)
     (λ e. and-make e (unmarked-run n c (le-of-suc-le-suc (rw e at l))))
     (λ e. absurd (let z : suc n ≤ 0 = rw e at l in omega arith))
+
+-- A run stops at index at the latest.
+pub run-le : (c : List ℕ) → unmarkedRun c ≤ length c
+unfolding unmarkedRun
+run-le [] = omega arith
+run-le (x ∷ c) = cases (ltb x 256) (λ e. rw e (omega (arith, run-le c))) (λ e. rw e (omega arith))
 
 span-run : (o : ℕ) (c : List ℕ) → spanLength o c - o ≤ unmarkedRun (drop o c)
 unfolding spanLength runsToIndex
@@ -44,17 +51,6 @@ after-front o c =
       rw (drop-take o (spanLength o c) c) (unmarked-run n (drop o c) (span-run o c)),
     )
 
-cells-drop : (q : ℕ) (t m : List ℕ) → drop q (cells t m) ≡ cells (drop q t) (drop q m)
-unfolding cells
-cells-drop zero t m = refl
-cells-drop (suc q) [] m = refl
-cells-drop (suc q) (b ∷ t) [] = go (drop q t)
-  where
-    go : (r : List ℕ) → [] ≡ cells r []
-    go [] = refl
-    go (b ∷ r) = refl
-cells-drop (suc q) (b ∷ t) (k ∷ m) = cells-drop q t m
-
 -- Unmarked cells at the front are the front of the track.
 front-bytes : (r z t m : List ℕ) → unmarked r ≡ true → cells t m ≡ r ++ z → t ≡ r ++ drop (length r) t
 unfolding cells unmarked
@@ -67,15 +63,33 @@ front-bytes (x ∷ r) z (b ∷ t) (k ∷ m) u e =
     let q : cells t m ≡ r ++ z = cc in
     ap₂ (λ (y : ℕ) (ys : List ℕ). y ∷ ys) (omega (arith, ltb-true x 256 (h .0))) (front-bytes r z t m (h .1) q)
 
+-- How many cells follow an opening of o cells in its span.
+pub after-length : (o : ℕ) (c : List ℕ) → length (afterOpening o c) ≡ spanLength o c - o
+unfolding afterOpening
+after-length o c =
+    let n : ℕ = spanLength o c - o in
+    ap length (drop-take o (spanLength o c) c) ∙ omega (arith, length-take n (drop o c), span-run o c, run-le (drop o c))
+
+-- What follows an opening of o cells at place p in its span is the front of the track from there on.
+pub after-front-bytes : (t m : List ℕ) (p o : ℕ) → (z : List ℕ) × (drop (p + o) t ≡ afterOpening o (drop p (cells t m)) ++ z)
+after-front-bytes t m p o =
+    let f = after-front o (drop p (cells t m)) in
+    let r : List ℕ = afterOpening o (drop p (cells t m)) in
+    let e : cells (drop (p + o) t) (drop (p + o) m) ≡ r ++ f .0 = sym (drop-cells (p + o) t m) ∙ sym (drop-drop o p (cells t m)) ∙ f .1 in
+    (drop (length r) (drop (p + o) t), front-bytes r (f .0) (drop (p + o) t) (drop (p + o) m) (f .2) e)
+
+-- It is n bytes of the track, where its span has n cells behind its opening.
+pub after-bytes : (o p n : ℕ) (t m : List ℕ) → n ≡ spanLength o (drop p (cells t m)) - o → afterOpening o (drop p (cells t m)) ≡ take n (drop (p + o) t)
+after-bytes o p n t m e =
+    let r : List ℕ = afterOpening o (drop p (cells t m)) in
+    let f = after-front-bytes t m p o in
+    sym (ap (take n) (f .1) ∙ take-at r (f .0) n (after-length o (drop p (cells t m)) ∙ sym e))
+
 -- The bytes of a candidate are the track's, from the end of its opening on.
 pub rest-in-track : (t m : List ℕ) (x : Candidate) → Member x (candidates (cells t m))
     → (z : List ℕ) × (drop (x .place + openingLength (x .first)) t ≡ x .rest ++ z) × (unmarked (x .rest) ≡ true)
 rest-in-track t m x n =
     let v = candidate-means (cells t m) x n in
     let o : ℕ = openingLength (x .first) in
-    let q : ℕ = x .place + o in
-    let f = after-front o (drop (x .place) (cells t m)) in
-    let u : unmarked (x .rest) ≡ true = ap unmarked (v .rest-is) ∙ f .2 in
-    let e : cells (drop q t) (drop q m) ≡ x .rest ++ f .0 =
-    sym (cells-drop q t m) ∙ sym (drop-drop o (x .place) (cells t m)) ∙ f .1 ∙ ap (λ (r : List ℕ). r ++ f .0) (sym (v .rest-is)) in
-    (drop (length (x .rest)) (drop q t), front-bytes (x .rest) (f .0) (drop q t) (drop q m) u e, u)
+    let f = after-front-bytes t m (x .place) o in
+    (f .0, f .1 ∙ ap (λ (r : List ℕ). r ++ f .0) (sym (v .rest-is)), ap unmarked (v .rest-is) ∙ after-front o (drop (x .place) (cells t m)) .2)

@@ -19,6 +19,11 @@ pub and-both : (a b : Bool) → (a && b) ≡ true → (a ≡ true) × (b ≡ tru
 and-both true b e = (refl, e)
 and-both false b e = (e, false-true e)
 
+-- A test together with one that fails fails.
+pub and-false : (b : Bool) → (b && false) ≡ false
+and-false true = refl
+and-false false = refl
+
 pub and-make : {a b : Bool} → a ≡ true → b ≡ true → (a && b) ≡ true
 and-make {a} {b} e h = rw (e, h)
 

@@ -10,7 +10,7 @@ use lib.Dec.{ltb, eqb, lit<}
 use borrow.Author.Tests.{eqb-true, eq-eqb, ltb-true, lt-ltb}
 use Rattle.format.specs.Lent.{unmarked}
 use Rattle.format.specs.Opening.{startsWith, markedOpening, opens}
-use Rattle.format.proofs.Judged.{false-true, and-both, and-make}
+use Rattle.format.proofs.Judged.{false-true, and-both, and-false, and-make}
 
 -- A list starts with its front.
 pub starts-with-self : (o r : List ℕ) → startsWith o (o ++ r) ≡ true
@@ -30,6 +30,12 @@ pub starts-with-append : (o r ys : List ℕ) → length o ≤ length r → start
 starts-with-append [] r ys h = refl
 starts-with-append (x ∷ o) [] ys h = absurd (omega arith)
 starts-with-append (x ∷ o) (y ∷ r) ys h = rw (starts-with-append o r ys (omega arith))
+
+-- Cells fewer than the list o do not start with it.
+pub starts-short : (o c : List ℕ) → length c < length o → startsWith o c ≡ false
+starts-short [] c h = absurd (omega arith)
+starts-short (x ∷ o) [] h = refl
+starts-short (x ∷ o) (y ∷ c) h = rw (starts-short o c (omega arith)) (and-false (eqb x y))
 
 -- Two unmarked lists are unmarked together.
 pub unmarked-append : (xs ys : List ℕ) → unmarked xs ≡ true → unmarked ys ≡ true → unmarked (xs ++ ys) ≡ true
@@ -86,6 +92,12 @@ unfolding unmarked
 unmarked-at [] i e = lit< tt
 unmarked-at (x ∷ xs) zero e = ltb-true x 256 (and-both (ltb x 256) (unmarked xs) e .0)
 unmarked-at (x ∷ xs) (suc i) e = unmarked-at xs i (and-both (ltb x 256) (unmarked xs) e .1)
+
+-- A list of bytes is unmarked.
+pub unmarked-below : (xs : List ℕ) → ((i : ℕ) → getD xs i 0 < 256) → unmarked xs ≡ true
+unfolding unmarked
+unmarked-below [] h = refl
+unmarked-below (x ∷ xs) h = unmarked-cons x xs (h 0) (unmarked-below xs (λ i. h (suc i)))
 
 -- Nothing opens at index.
 pub opens-nil : opens [] ≡ false

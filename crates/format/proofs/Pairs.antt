@@ -17,6 +17,14 @@ use Rattle.format.proofs.Judged.{cases, false-true, and-both, and-make,
 use Rattle.format.proofs.Lists.{take-map}
 use Rattle.format.proofs.ReadsAs.{accepted-by}
 
+-- Unmarked cells are their bytes.
+pub bytes-unmarked : (xs : List ℕ) → unmarked xs ≡ true → bytesOf xs ≡ xs
+unfolding bytesOf unmarked
+bytes-unmarked [] e = refl
+bytes-unmarked (x ∷ xs) e =
+    let h = and-both (ltb x 256) (unmarked xs) e in
+    ap₂ (λ (z : ℕ) (zs : List ℕ). z ∷ zs) (omega (arith, ltb-true x 256 (h .0))) (bytes-unmarked xs (h .1))
+
 -- The cells of the bytes and marks of cells are those cells.
 pub cells-of : (c : List ℕ) → cells (bytesOf c) (marksOf c) ≡ c
 unfolding cells bytesOf marksOf
@@ -48,6 +56,19 @@ unfolding cells
 length-cells [] m e = refl
 length-cells (b ∷ t) [] e = absurd (omega arith)
 length-cells (b ∷ t) (k ∷ m) e = ap suc (length-cells t m (omega arith))
+
+cells-none : (t : List ℕ) → cells t [] ≡ []
+unfolding cells
+cells-none [] = refl
+cells-none (b ∷ t) = refl
+
+-- The cells from place n on are those of what both lists have from there on.
+pub drop-cells : (n : ℕ) (t m : List ℕ) → drop n (cells t m) ≡ cells (drop n t) (drop n m)
+unfolding cells
+drop-cells zero t m = refl
+drop-cells (suc n) [] m = refl
+drop-cells (suc n) (b ∷ t) [] = sym (cells-none (drop n t))
+drop-cells (suc n) (b ∷ t) (k ∷ m) = drop-cells n t m
 
 pub length-bytes : (c : List ℕ) → length (bytesOf c) ≡ length c
 unfolding bytesOf
@@ -117,13 +138,19 @@ pub accepted-pair : (t m : List ℕ) (a : Accepted) → accept t m ≡ good a �
 unfolding accept
 accepted-pair t m a e = require-good (lentForReading t m) lentWrong (acceptCells (cells t m)) a e
 
+-- A pair that is lent within the rule has as many marks as bytes.
+pub lent-marks : (t m : List ℕ) → lentForReading t m ≡ true → length m ≡ length t
+unfolding lentForReading lentForWriting
+lent-marks t m e =
+    let a = and-both (lentForWriting (length t) (length m)) (marksLegal m) e in
+    eqb-true (length m) (length t) (and-both (lengthRight (length t)) (eqb (length m) (length t)) (a .0) .1)
+
 -- The cells of a pair that is lent within the rule have its length, which is right.
 pub lent-length : (t m : List ℕ) → lentForReading t m ≡ true → (length (cells t m) ≡ length t) × (lengthRight (length t) ≡ true)
 unfolding lentForReading lentForWriting
 lent-length t m e =
     let w = and-both (lengthRight (length t) && eqb (length m) (length t)) (marksLegal m) e in
-    let k = and-both (lengthRight (length t)) (eqb (length m) (length t)) (w .0) in
-    (length-cells t m (eqb-true (length m) (length t) (k .1)), k .0)
+    (length-cells t m (lent-marks t m e), and-both (lengthRight (length t)) (eqb (length m) (length t)) (w .0) .0)
 
 -- Cells as a pair.
 abbrev pub pairOf : List ℕ → Pair
@@ -135,13 +162,6 @@ unfolding asPair
 written-pair j q e =
     let r = then-good j (λ c. good (pairOf c)) q e in
     (r .0, r .1, good-inj (pairOf (r .0)) q (r .2))
-
--- A pair that is lent for reading has as many marks as bytes.
-pub lent-marks : (t m : List ℕ) → lentForReading t m ≡ true → length m ≡ length t
-unfolding lentForReading lentForWriting
-lent-marks t m e =
-    let a = and-both (lentForWriting (length t) (length m)) (marksLegal m) e in
-    eqb-true (length m) (length t) (and-both (lengthRight (length t)) (eqb (length m) (length t)) (a .0) .1)
 
 -- Cells that agree up to place n give bytes and marks that do.
 pub bytes-copied : (n : ℕ) (e c : List ℕ) → take n e ≡ take n c → take n (bytesOf e) ≡ take n (bytesOf c)

@@ -58,7 +58,8 @@ unfolding nextFrom
 next-passed p [] ys b = refl
 next-passed p (x ∷ xs) ys b = rw (lt-leb p (x .place) (b .0)) (next-passed p xs ys (b .1))
 
-next-here : (p : ℕ) (y : Candidate) (ys : List Candidate) → p ≤ y .place → nextFrom p (y ∷ ys) ≡ good (visited y)
+-- The next is the first one that has its place at p or later.
+pub next-here : (p : ℕ) (y : Candidate) (ys : List Candidate) → p ≤ y .place → nextFrom p (y ∷ ys) ≡ good (visited y)
 unfolding nextFrom
 next-here p y ys l = rw (le-leb p (y .place) l)
 

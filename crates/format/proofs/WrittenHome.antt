@@ -1,16 +1,16 @@
 -- Home as it is first written is found at place 30 and passes.
-use mathlib.Core.Path.{_≡_, refl, ap, ap₂}
+use mathlib.Core.Path.{_≡_, refl, ap}
 use Prim.Native.Nat.{ℕ, _/_, _%_, _≤_}
 use native.Mathlib.Omega.{arith}
 use native.Mathlib.Nat.{div-add-mod'}
 use mathlib.Core.Bool.{true}
 use mathlib.Core.List.{List, [], _∷_, _++_}
 use lib.ListN.{length, replicate}
-use lib.Dec.{leb, ltb, lit<}
-use borrow.Author.Tests.{leb-true, lt-ltb, ltb-true, eq-eqb}
+use lib.Dec.{leb, lit<}
+use borrow.Author.Tests.{leb-true, lt-ltb, eq-eqb}
 use Rattle.crc.specs.Check.{checkBytes}
 use Rattle.format.specs.Judged.{good}
-use Rattle.format.specs.Lent.{bytesOf, unmarked}
+use Rattle.format.specs.Lent.{unmarked}
 use Rattle.format.specs.Opening.{plainOpening, closing, closedAfter}
 use Rattle.format.specs.Flag.{homeFlagRight}
 use Rattle.format.specs.Address.{Address, addressIn, addressBytes, addressInRange}
@@ -20,14 +20,7 @@ use Rattle.format.specs.Blank.{writtenHead}
 use Rattle.format.proofs.Judged.{and-both}
 use Rattle.format.proofs.Opening.{starts-with-self, unmarked-append, unmarked-cons, unmarked-replicate}
 use Rattle.format.proofs.Field.{unmarked-closing}
-
--- Unmarked cells are their bytes.
-pub bytes-unmarked : (xs : List ℕ) → unmarked xs ≡ true → bytesOf xs ≡ xs
-unfolding bytesOf unmarked
-bytes-unmarked [] e = refl
-bytes-unmarked (x ∷ xs) e =
-    let h = and-both (ltb x 256) (unmarked xs) e in
-    ap₂ (λ (z : ℕ) (zs : List ℕ). z ∷ zs) (omega (arith, ltb-true x 256 (h .0))) (bytes-unmarked xs (h .1))
+use Rattle.format.proofs.Pairs.{bytes-unmarked}
 
 opening-unmarked : unmarked plainOpening ≡ true
 unfolding unmarked

@@ -17,17 +17,19 @@ use Rattle.format.specs.Span.{runsToIndex, spanLength, afterOpening, beforeOpen
 use Rattle.format.specs.Sector.{sectorIn, settle, judgeSector, readSpan}
 use Rattle.format.specs.Accept.{readSpans}
 use Rattle.format.proofs.Judged.{and-both}
+use Rattle.format.proofs.Lists.{part-all}
 use Rattle.format.proofs.Shape.{cleanSpan, cleanSpans, FirstReaches}
 use Rattle.format.proofs.Opening.{starts-with-append}
 use Rattle.format.proofs.Cutting.{before-joined, before-whole, shape-spans, shape-later, later-joined}
 use Rattle.format.proofs.Marks.{marks-clean}
 use Rattle.format.proofs.SpanAgrees.{span-agrees}
-use Rattle.search.proofs.Cells.{length-cells, drop-cells}
+use Rattle.format.proofs.Pairs.{drop-cells}
+use Rattle.format.proofs.CandidateBytes.{after-bytes}
+use Rattle.search.proofs.Cells.{length-cells}
 use Rattle.sector.proofs.Opening.{plain-length}
 use Rattle.reader.specs.Accepting.{Rest, Unstrayed}
-use Rattle.reader.proofs.AcceptBytes.{part-all}
 use Rattle.reader.proofs.AcceptAnswers.{refusal-stays, answer-then, sector-zero}
-use Rattle.reader.proofs.AcceptSpans.{after-bytes, before-later}
+use Rattle.reader.proofs.AcceptSpans.{before-later}
 
 -- Sector 0 opens on the track where it opens in its span.
 pub opens-first : (d : List ℕ) → FirstReaches 18 (spans d) → startsWith plainOpening (beforeOpening d) ≡ startsWith plainOpening d
@@ -73,7 +75,7 @@ first-front p t m n u o e =
       size = size;
       opening = omega arith;
       fits = fits;
-      bytes = ap (λ (j : ℕ). take j (drop (p + 6) t)) k ∙ after-bytes t m p 6 ∙ ap (afterOpening 6) (sym whole) ∙ a .1;
+      bytes = sym (after-bytes 6 p (p + n - (p + 6)) t m k) ∙ ap (afterOpening 6) (sym whole) ∙ a .1;
       last = ap (runsToIndex 6) (sym whole) ∙ a .2;
       rest-cut = cut;
       rest = record {

@@ -4,7 +4,7 @@ use Prim.Native.Nat.{ℕ, suc, _+_, _-_, _≤_, _<_}
 use native.Mathlib.Omega.{arith}
 use mathlib.Core.Bool.{Bool, true, false, not, _||_}
 use mathlib.Core.List.{List, [], _∷_}
-use lib.ListN.{length, getD, take, drop, set, replicate, length-drop, length-set, length-replicate, getD-replicate}
+use lib.ListN.{length, getD, drop, set, replicate, length-drop, length-set, length-replicate, getD-replicate}
 use lib.Seq.{drop-drop, getD-set-same, getD-set-other}
 use lib.Dec.{eqb}
 use borrow.Author.Tests.{eq-eqb, ne-eqb, eqb-true, eqb-false, le-leb}
@@ -20,10 +20,11 @@ use Rattle.format.proofs.Judged.{cases, and-both}
 use Rattle.format.proofs.Shape.{cleanSpan, cleanSpans}
 use Rattle.format.proofs.Opening.{unmarked-at, unmarked-drop}
 use Rattle.format.proofs.Marks.{marks-clean}
-use Rattle.search.proofs.Cells.{drop-cells}
+use Rattle.format.proofs.Pairs.{drop-cells}
+use Rattle.format.proofs.CandidateBytes.{after-bytes}
 use Rattle.sectors.specs.Stepped.{Stepped, steppedIn, restAt, steppedAt}
 use Rattle.reader.specs.Accepting.{Rest, Unstrayed, numbersIn}
-use Rattle.reader.proofs.AcceptSpans.{Front, front, after-bytes, no-span}
+use Rattle.reader.proofs.AcceptSpans.{Front, front, no-span}
 use Rattle.reader.proofs.AcceptFirst.{First, first-front}
 
 -- 13 by the spans of later sectors, where the flags f say which numbers were passed.
@@ -98,7 +99,7 @@ passed t m q x e l w r =
     let k : x .next - q ≡ spanLength 8 c = omega arith in
     let f : Front q (x .next - q) (drop q t) (drop q m) = front q (drop q t) (drop q m) (x .next - q) r k (omega (arith, length-drop q t)) in
     let b : afterOpening 8 c ≡ drop 8 (f .span) =
-    sym (after-bytes (drop q t) (drop q m) 0 8) ∙ ap (λ (j : ℕ). take (j - 8) (drop 8 (drop q t))) (sym k) ∙ f .bytes in
+    after-bytes 8 0 (x .next - q - 8) (drop q t) (drop q m) (ap (λ (j : ℕ). j - 8) k) ∙ f .bytes in
     record {
       front-is = f;
       number-is = ap (λ (z : Stepped). z .number) e ∙ number-at false q (cells t m) (omega arith) ∙ ap (λ (z : List ℕ). countNumber z) (ap (afterOpening 8) d ∙ b);
@@ -144,7 +145,7 @@ module _ (t m : List ℕ) (p : ℕ) (u : Unstrayed p t m) (o : startsWith plainO
       let k : x .next - p ≡ spanLength 6 c = omega (arith, zero-next) in
       let j : p + (x .next - p) - (p + 6) ≡ spanLength 6 c - 6 = omega arith in
       ap (λ (z : Stepped). z .number) e ∙ number-at true p (cells t m) (omega (arith, u .reach, u .within))
-      ∙ ap (λ (z : List ℕ). countNumber z) (sym (after-bytes t m p 6) ∙ ap (λ (i : ℕ). take i (drop (p + 6) t)) (sym j) ∙ zero-front .bytes)
+      ∙ ap (λ (z : List ℕ). countNumber z) (after-bytes 6 p (p + (x .next - p) - (p + 6)) t m j ∙ zero-front .bytes)
 
   -- Where the next sector starts, or the track ends.
   pub zero-within : x .next ≤ length t

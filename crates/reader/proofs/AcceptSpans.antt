@@ -1,13 +1,11 @@
 -- The spans of what is left of a track: the first one by the next mark, and what is left behind it.
 use mathlib.Core.Path.{_≡_, refl, sym, ap, ap₂, _∙_}
-use Prim.Native.Nat.{ℕ, suc, _+_, _-_, _*_, _≤_, _<_}
+use Prim.Native.Nat.{ℕ, suc, _+_, _-_, _≤_, _<_}
 use native.Mathlib.Omega.{arith}
 use mathlib.Core.Bool.{Bool, true}
 use mathlib.Core.List.{List, [], _∷_, _++_}
-use lib.ListN.{length, take, drop, length-append, length-take, length-drop}
-use lib.Dec.{ltb}
-use borrow.Author.Tests.{ltb-true}
-use lib.Seq.{drop-at, drop-drop}
+use lib.ListN.{length, take, drop, length-append, length-drop}
+use lib.Seq.{drop-at}
 use Rattle.format.specs.Answer.{Answer, done}
 use Rattle.format.specs.Judged.{answerOf}
 use Rattle.format.specs.Address.{Address}
@@ -15,49 +13,19 @@ use Rattle.format.specs.Home.{Home}
 use Rattle.format.specs.Count.{Settled, settled}
 use Rattle.format.specs.Sector.{judgeSector}
 use Rattle.format.specs.Accept.{readSpans}
-use Rattle.format.specs.Lent.{cells, unmarked}
+use Rattle.format.specs.Lent.{cells}
 use Rattle.format.specs.Span.{runsToIndex, spanLength, afterOpening, beforeOpening, laterSpans, joined, none}
 use Rattle.format.proofs.Judged.{and-both}
+use Rattle.format.proofs.Lists.{none-long, part-all}
 use Rattle.format.proofs.Shape.{Shape, cleanSpan, cleanSpans}
 use Rattle.format.proofs.Opening.{length-opens}
 use Rattle.format.proofs.Cutting.{before-joined, shape-later, later-joined}
 use Rattle.format.proofs.SpanAgrees.{span-agrees}
-use Rattle.format.proofs.CandidateBytes.{after-front}
-use Rattle.search.proofs.Run.{span-le}
-use Rattle.search.proofs.Cells.{length-cells, drop-cells}
+use Rattle.format.proofs.Pairs.{drop-cells}
+use Rattle.format.proofs.CandidateBytes.{after-bytes}
+use Rattle.search.proofs.Cells.{length-cells}
 use Rattle.reader.specs.Accepting.{Rest}
-use Rattle.reader.proofs.AcceptBytes.{part-all}
 use Rattle.reader.proofs.AcceptAnswers.{spans-refused, spans-good}
-
--- Unmarked cells at the front are bytes at the front of the track.
-front-bytes : (r z t m : List ℕ) → unmarked r ≡ true → cells t m ≡ r ++ z → take (length r) t ≡ r
-unfolding cells unmarked
-front-bytes [] z t m u e = refl
-front-bytes (x ∷ r) z [] m u e = absurd (let w : _≡_ {A = ℕ} 0 1 = cc in omega arith)
-front-bytes (x ∷ r) z (b ∷ t) [] u e = absurd (let w : _≡_ {A = ℕ} 0 1 = cc in omega arith)
-front-bytes (x ∷ r) z (b ∷ t) (k ∷ m) u e =
-    let h = and-both (ltb x 256) (unmarked r) u in
-    let p : b + 256 * k ≡ x = cc in
-    let q : cells t m ≡ r ++ z = cc in
-    ap₂ (λ (y : ℕ) (ys : List ℕ). y ∷ ys) (omega (arith, ltb-true x 256 (h .0))) (front-bytes r z t m (h .1) q)
-
-empty : (xs : List ℕ) → length xs ≡ 0 → xs ≡ []
-empty [] e = refl
-empty (x ∷ xs) e = absurd (omega arith)
-
--- A span without its opening.
-pub after-length : (o : ℕ) (c : List ℕ) → length (afterOpening o c) ≡ spanLength o c - o
-unfolding afterOpening
-after-length o c = omega (arith, length-drop o (take (spanLength o c) c), length-take (spanLength o c) c, span-le o c)
-
--- What follows the opening of o cells at place p in its span is bytes of the track.
-pub after-bytes : (t m : List ℕ) (p o : ℕ) → take (spanLength o (drop p (cells t m)) - o) (drop (p + o) t) ≡ afterOpening o (drop p (cells t m))
-after-bytes t m p o =
-    let d : List ℕ = drop p (cells t m) in
-    let f = after-front o d in
-    let r : List ℕ = afterOpening o d in
-    let e : cells (drop (p + o) t) (drop (p + o) m) ≡ r ++ f .0 = sym (drop-cells (p + o) t m) ∙ sym (drop-drop o p (cells t m)) ∙ f .1 in
-    ap (λ (k : ℕ). take k (drop (p + o) t)) (sym (after-length o d)) ∙ front-bytes r (f .0) (drop (p + o) t) (drop (p + o) m) (f .2) e
 
 -- In a later position a span is clean as in any other.
 clean-two : (i j : ℕ) (gs : List (List ℕ)) → cleanSpans (suc i) gs ≡ cleanSpans (suc j) gs
@@ -80,7 +48,7 @@ pub record Front (p n : ℕ) (t m : List ℕ) : Type 0 where
 
 -- Nothing stands before later spans that are joined.
 pub before-later : (i : ℕ) (gs : List (List ℕ)) → Shape (suc i) gs → beforeOpening (joined gs) ≡ []
-before-later i gs s = empty (beforeOpening d) (omega (arith, ap length whole, length-append (beforeOpening d) d))
+before-later i gs s = none-long (beforeOpening d) (omega (arith, ap length whole, length-append (beforeOpening d) d))
   where
     d : List ℕ
     d = joined gs
@@ -111,7 +79,7 @@ module _ (p : ℕ) (t m : List ℕ) (n : ℕ) (r : Rest p t m) (e : n ≡ spanLe
         size = size;
         opening = omega arith;
         fits = fits;
-        bytes = ap (λ (k : ℕ). take (k - 8) (drop 8 t)) e ∙ after-bytes t m 0 8 ∙ ap (afterOpening 8) (sym whole) ∙ a .1;
+        bytes = sym (after-bytes 8 0 (n - 8) t m (ap (λ (k : ℕ). k - 8) e)) ∙ ap (afterOpening 8) (sym whole) ∙ a .1;
         last = ap (runsToIndex 8) (sym whole) ∙ a .2;
         rest-cut = cut;
         rest = record {

@@ -1,26 +1,22 @@
 -- Laws of one candidate: its bytes are a part of the track, and when it stands.
-use mathlib.Core.Path.{_≡_, refl, sym, ap, ap₂, _∙_}
-use Prim.Native.Nat.{ℕ, _+_, _-_, _*_, _≤_, _<_}
+use mathlib.Core.Path.{_≡_, refl, sym, ap, _∙_}
+use Prim.Native.Nat.{ℕ, _+_, _-_, _≤_, _<_}
 use native.Mathlib.Omega.{arith}
 use mathlib.Core.Bool.{Bool, true, false, _&&_}
-use mathlib.Core.List.{List, [], _∷_, _++_}
-use lib.ListN.{length, take, drop, length-take, length-drop, drop-of-length-le}
-use lib.Seq.{take-nil, take-all, take-at, drop-drop}
-use lib.Dec.{ltb}
-use borrow.Author.Tests.{ltb-true, le-leb, lt-leb, eq-eqb, ne-eqb}
+use mathlib.Core.List.{List, [], _∷_}
+use lib.ListN.{length, take, drop, length-drop, drop-of-length-le}
+use lib.Seq.{take-nil, take-all}
+use borrow.Author.Tests.{le-leb, lt-leb, eq-eqb, ne-eqb}
 use Rattle.crc.specs.Check.{pick}
 use Rattle.format.specs.Judged.{Judged, good}
-use Rattle.format.specs.Lent.{cells, unmarked}
+use Rattle.format.specs.Lent.{cells}
 use Rattle.format.specs.Opening.{startsWith, plainOpening, opens}
 use Rattle.format.specs.Home.{firstCountPlace}
 use Rattle.format.specs.Count.{countFits, countClosed}
-use Rattle.format.specs.Span.{runsToIndex, spanLength, afterOpening}
+use Rattle.format.specs.Span.{runsToIndex, spanLength}
 use Rattle.format.specs.Sector.{openingLength}
 use Rattle.format.specs.Candidate.{Candidate, firstOpensAt, candidateAt, countPasses, standsAt}
-use Rattle.format.proofs.Judged.{and-both}
-use Rattle.format.proofs.CandidateBytes.{after-front}
-use Rattle.search.proofs.Cells.{drop-cells}
-use Rattle.search.proofs.Run.{span-le}
+use Rattle.format.proofs.CandidateBytes.{after-length, after-bytes}
 use Rattle.reader.specs.Finding.{asCandidate, passing, standingAt}
 use Rattle.reader.specs.declared.candidate.Candidate.{Candidate as CandidateCode}
 
@@ -36,33 +32,6 @@ part-long t n p q e l =
 -- A part by its start and its end.
 pub part-is : (t : List ℕ) (n p q : ℕ) → p ≡ q → take (p + n - p) (drop p t) ≡ take n (drop q t)
 part-is t n p q e = let k : p + n - p ≡ n = omega arith in rw (← e, k)
-
--- Unmarked cells at the front are the front of the track.
-front-bytes : (r z t m : List ℕ) → unmarked r ≡ true → cells t m ≡ r ++ z → t ≡ r ++ drop (length r) t
-unfolding cells unmarked
-front-bytes [] z t m u e = refl
-front-bytes (x ∷ r) z [] m u e = absurd (let w : _≡_ {A = ℕ} 0 1 = cc in omega arith)
-front-bytes (x ∷ r) z (b ∷ t) [] u e = absurd (let w : _≡_ {A = ℕ} 0 1 = cc in omega arith)
-front-bytes (x ∷ r) z (b ∷ t) (k ∷ m) u e =
-    let h = and-both (ltb x 256) (unmarked r) u in
-    let p : b + 256 * k ≡ x = cc in
-    let q : cells t m ≡ r ++ z = cc in
-    ap₂ (λ (y : ℕ) (ys : List ℕ). y ∷ ys) (omega (arith, ltb-true x 256 (h .0))) (front-bytes r z t m (h .1) q)
-
--- How many cells follow an opening of o cells in its span.
-pub length-after : (o : ℕ) (c : List ℕ) → length (afterOpening o c) ≡ spanLength o c - o
-unfolding afterOpening
-length-after o c = omega (arith, length-drop o (take (spanLength o c) c), length-take (spanLength o c) c, span-le o c)
-
--- What follows an opening of o cells at place p in its span is the track's own bytes.
-pub after-bytes : (o p n : ℕ) (t m : List ℕ) → n ≡ spanLength o (drop p (cells t m)) - o → afterOpening o (drop p (cells t m)) ≡ take n (drop (p + o) t)
-after-bytes o p n t m e =
-    let d : List ℕ = drop p (cells t m) in
-    let r : List ℕ = afterOpening o d in
-    let f = after-front o d in
-    let g : cells (drop (p + o) t) (drop (p + o) m) ≡ r ++ f .0 = sym (drop-cells (p + o) t m) ∙ sym (drop-drop o p (cells t m)) ∙ f .1 in
-    let b : drop (p + o) t ≡ r ++ drop (length r) (drop (p + o) t) = front-bytes r (f .0) (drop (p + o) t) (drop (p + o) m) (f .2) g in
-    sym (ap (take n) b ∙ take-at r (drop (length r) (drop (p + o) t)) n (length-after o d ∙ sym e))
 
 -- The count at place p of a track t with the marks m: its opening has o cells, and its span n, by which it runs to index or not.
 module _ (t m : List ℕ) (first last : Bool) (p o n : ℕ) (eo : o ≡ openingLength first)
@@ -87,7 +56,7 @@ module _ (t m : List ℕ) (first last : Bool) (p o n : ℕ) (eo : o ≡ openingL
   length-looked =
       let d : List ℕ = drop p (cells t m) in
       let f : n ≡ spanLength (openingLength first) d = en ∙ ap (λ (k : ℕ). spanLength k d) eo in
-      ap length (sym (after-bytes (openingLength first) p (n - o) t m (omega (arith, f, eo)))) ∙ length-after (openingLength first) d ∙ omega (arith, f, eo)
+      ap length (sym (after-bytes (openingLength first) p (n - o) t m (omega (arith, f, eo)))) ∙ after-length (openingLength first) d ∙ omega (arith, f, eo)
 
   -- It lies in its span and is closed.
   pub passing-yes : 12 ≤ n - o → countClosed (take (p + o + (n - o) - (p + o)) (drop (p + o) t)) ≡ true

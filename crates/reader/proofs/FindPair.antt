@@ -22,7 +22,8 @@ use Rattle.format.specs.Sector.{judgeCount}
 use Rattle.format.specs.Accept.{Accepted, accept}
 use Rattle.format.specs.Find.{Wanted, find}
 use Rattle.format.specs.PairFind.{ofFirst, ofSecond, fromFirstCount, namedTrack, judgeFirstCount, judgeFirst, pairAgrees, findOnSecond, findByFlag, pairFind}
-use Rattle.sector.proofs.Test.{eqb-comm, and-false}
+use Rattle.format.proofs.Judged.{and-false}
+use Rattle.sector.proofs.Test.{eqb-comm}
 use Rattle.reader.proofs.AcceptAnswers.{count-zero}
 
 -- An outcome whose answer is not 0 is that refusal.

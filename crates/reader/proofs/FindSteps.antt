@@ -1,11 +1,11 @@
 -- Laws of a step of Walk.
 use mathlib.Core.Path.{_≡_, refl, ap, _∙_}
-use Prim.Native.Nat.{ℕ, zero, suc, _+_, _≤_}
+use Prim.Native.Nat.{ℕ, zero, suc, _+_}
 use native.Mathlib.Omega.{arith}
 use mathlib.Core.Bool.{true, false}
 use mathlib.Core.List.{List, [], _∷_}
 use lib.ListN.{take, drop}
-use borrow.Author.Tests.{le-leb, lt-leb}
+use borrow.Author.Tests.{lt-leb}
 use Rattle.format.specs.Answer.{lentWrong, sectorMissing}
 use Rattle.format.specs.Judged.{Judged, good, refused}
 use Rattle.format.specs.Lent.{lentForReading, cells}
@@ -14,6 +14,7 @@ use Rattle.format.specs.Count.{countFlag, countNumber, keyLength, dataLength}
 use Rattle.format.specs.Candidate.{Candidate, candidateAt, standsAt, candidatesFrom, candidates}
 use Rattle.format.specs.Walk.{Visited, visited, nextFrom, step}
 use Rattle.format.proofs.Judged.{cases}
+use Rattle.format.proofs.WalkSteps.{next-here}
 use Rattle.reader.proofs.CandidateNext.{candidatesAt, candidates-first, none-first}
 
 -- The candidates before place p are passed.
@@ -27,11 +28,6 @@ next-passed h (suc k) q p (y ∷ c) e =
     (λ s. rw (s, lt-leb p q (omega arith)) r)
     (λ s. rw s r)
 
--- The first one that has its place at p or later is the next.
-next-is : (p : ℕ) (x : Candidate) (ys : List Candidate) → p ≤ x .place → nextFrom p (x ∷ ys) ≡ good (visited x)
-unfolding nextFrom
-next-is p x ys l = rw (le-leb p (x .place) l)
-
 -- The step of a reader that has come to place p of a pair, where home opens by h.
 module _ (t m : List ℕ) (h : Judged ℕ) (p : ℕ) (f : h ≡ findHome (cells t m)) where
   step-at : lentForReading t m ≡ true → step p t m ≡ nextFrom p (candidatesAt h p (cells t m))
@@ -42,7 +38,7 @@ module _ (t m : List ℕ) (h : Judged ℕ) (p : ℕ) (f : h ≡ findHome (cells 
   pub step-good : (x : Candidate) → lentForReading t m ≡ true → x ∷ [] ≡ take 1 (candidatesAt h p (cells t m)) → step p t m ≡ good (visited x)
   step-good x l e =
       let r = candidates-first h p (cells t m) x e in
-      step-at l ∙ ap (nextFrom p) (r .2) ∙ next-is p x (candidatesAt h (x .place + 1) (cells t m)) (r .0)
+      step-at l ∙ ap (nextFrom p) (r .2) ∙ next-here p x (candidatesAt h (x .place + 1) (cells t m)) (r .0)
 
   -- or there is none left.
   pub step-none : lentForReading t m ≡ true → [] ≡ take 1 (candidatesAt h p (cells t m)) → step p t m ≡ refused sectorMissing

@@ -1,5 +1,5 @@
 -- Laws that lead from the two lent lists to their cells, and of cells that start with an opening.
-use mathlib.Core.Path.{_≡_, refl, sym, ap}
+use mathlib.Core.Path.{_≡_, refl, ap}
 use Prim.Native.Nat.{ℕ, zero, suc, _+_, _*_, _≤_, _<_, min}
 use mathlib.Core.Bool.{Bool, true, false, _&&_}
 use mathlib.Core.List.{List, [], _∷_}
@@ -28,20 +28,6 @@ getD-cells (b ∷ t) [] i h = absurd (omega arith)
 getD-cells (b ∷ t) (k ∷ m) zero h = refl
 getD-cells (b ∷ t) (k ∷ m) (suc i) h = getD-cells t m i (le-of-suc-le-suc h)
 
--- Without marks there are no cells.
-cells-nil : (t : List ℕ) → cells t [] ≡ []
-unfolding cells
-cells-nil [] = refl
-cells-nil (b ∷ t) = refl
-
--- The cells from place n on are those of what both lists have from there on.
-pub drop-cells : (n : ℕ) (t m : List ℕ) → drop n (cells t m) ≡ cells (drop n t) (drop n m)
-unfolding cells
-drop-cells zero t m = refl
-drop-cells (suc n) [] m = refl
-drop-cells (suc n) (b ∷ t) [] = sym (cells-nil (drop n t))
-drop-cells (suc n) (b ∷ t) (k ∷ m) = drop-cells n t m
-
 -- The first n cells are those of what both lists start with.
 pub take-cells : (n : ℕ) (t m : List ℕ) → take n (cells t m) ≡ cells (take n t) (take n m)
 unfolding cells
@@ -49,16 +35,6 @@ take-cells zero t m = refl
 take-cells (suc n) [] m = refl
 take-cells (suc n) (b ∷ t) [] = refl
 take-cells (suc n) (b ∷ t) (k ∷ m) = ap (λ (c : List ℕ). (b + 256 * k) ∷ c) (take-cells n t m)
-
--- Too few cells start with no opening.
-pub starts-short : (o c : List ℕ) → length c < length o → startsWith o c ≡ false
-starts-short [] c h = absurd (omega arith)
-starts-short (x ∷ o) [] h = refl
-starts-short (x ∷ o) (y ∷ c) h = rw (starts-short o c (le-of-suc-le-suc h)) (and-false (eqb x y))
-  where
-    and-false : (b : Bool) → (b && false) ≡ false
-    and-false true = refl
-    and-false false = refl
 
 -- Cells that start with an opening have its length.
 pub starts-length : (o c : List ℕ) → startsWith o c ≡ true → length o ≤ length c

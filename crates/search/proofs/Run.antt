@@ -1,33 +1,24 @@
 -- Laws of unmarked runs and of spans.
-use mathlib.Core.Path.{_≡_, refl, sym, _∙_}
+use mathlib.Core.Path.{_≡_, sym, _∙_}
 use Prim.Native.Nat.{ℕ, _+_, _-_, _≤_, _<_}
 use mathlib.Core.Bool.{Bool, true, false}
-use mathlib.Core.List.{List, [], _∷_}
+use mathlib.Core.List.{List}
 use native.Mathlib.Numerals.{add-one}
 use native.Mathlib.Omega.{arith}
-use lib.Dec.{leb, ltb}
+use lib.Dec.{leb}
 use lib.ListN.{length, getD, drop, length-drop, drop-of-length-le}
 use lib.Seq.{drop-cons}
 use borrow.Author.Tests.{lt-ltb, le-ltb, leb-true, leb-false, eq-eqb, ne-eqb}
 use Rattle.format.specs.Lent.{cells}
 use Rattle.format.specs.Span.{unmarkedRun, runsToIndex, spanLength}
+use Rattle.format.proofs.Judged.{cases}
+use Rattle.format.proofs.CandidateBytes.{run-le}
 use Rattle.search.proofs.Cells.{getD-cells}
-
--- A test holds or does not hold.
-cases : {P : Type 0} (b : Bool) → (b ≡ true → P) → (b ≡ false → P) → P
-cases true f g = f refl
-cases false f g = g refl
 
 -- Behind the last cell no run starts.
 pub run-end : (c : List ℕ) (i : ℕ) → length c ≤ i → unmarkedRun (drop i c) ≡ 0
 unfolding unmarkedRun
 run-end c i h = rw (drop-of-length-le c {i = i} h)
-
--- A run stops at index at the latest.
-pub run-le : (c : List ℕ) → unmarkedRun c ≤ length c
-unfolding unmarkedRun
-run-le [] = omega arith
-run-le (x ∷ c) = cases (ltb x 256) (λ e. rw e (omega (arith, run-le c))) (λ e. rw e (omega arith))
 
 -- The cell at place i of a lent pair.
 module _ (t m : List ℕ) (i : ℕ) (h : i < length (cells t m)) where

@@ -5,29 +5,26 @@ use native.Mathlib.Omega.{arith}
 use mathlib.Core.Bool.{Bool, true, false, _&&_}
 use mathlib.Core.List.{List, [], _∷_, _++_}
 use lib.ListN.{length, getD, take, drop, length-drop}
-use lib.Seq.{take-all}
 use lib.Dec.{eqb}
 use borrow.Author.Tests.{eq-eqb, ne-eqb, eqb-true}
 use Rattle.format.specs.Opening.{startsWith, plainOpening, closedAfter}
 use Rattle.format.specs.Count.{keyLength, dataLength}
 use Rattle.format.specs.Block.{keySize, dataSize, dataOffset, blockEnd, leastGap, blockRight, keyRight, dataRight}
 use Rattle.format.specs.Sector.{openingLength}
-use Rattle.sector.proofs.Test.{either}
-use Rattle.sector.proofs.Opening.{starts-short, empty-short}
-
--- A slice from place a on is what remains behind the first a bytes.
-pub part-all : (a : ℕ) (s : List ℕ) → take (length s - a) (drop a s) ≡ drop a s
-part-all a s = take-all (length s - a) (drop a s) (omega (arith, length-drop a s))
+use Rattle.format.proofs.Judged.{cases}
+use Rattle.format.proofs.Lists.{part-all}
+use Rattle.format.proofs.Opening.{starts-short}
+use Rattle.sector.proofs.Opening.{empty-short}
 
 -- A key takes at most 20 bytes beside its own.
 key-size-le : (n : ℕ) → keySize n ≤ n + 20
 unfolding keySize
-key-size-le n = either (eqb n 0) (λ e. rw e (omega arith)) (λ e. rw e (omega arith))
+key-size-le n = cases (eqb n 0) (λ e. rw e (omega arith)) (λ e. rw e (omega arith))
 
 -- A data block takes at most 9 bytes beside its own.
 data-size-le : (n : ℕ) → dataSize n ≤ n + 9
 unfolding dataSize
-data-size-le n = either (eqb n 0) (λ e. let h : n ≡ 0 = eqb-true n 0 e in rw e (omega arith)) (λ e. rw e (omega arith))
+data-size-le n = cases (eqb n 0) (λ e. let h : n ≡ 0 = eqb-true n 0 e in rw e (omega arith)) (λ e. rw e (omega arith))
 
 -- The opening of a count has at most 8 bytes.
 pub opening-le : (first : Bool) → openingLength first ≤ 8
@@ -99,6 +96,6 @@ module _ (r : List ℕ) where
   pub data-short : length r < dataOffset r → dataRight r ≡ false
   unfolding dataRight
   data-short h =
-      either (eqb (dataLength r) 0)
+      cases (eqb (dataLength r) 0)
       (λ e. rw e (empty-short (drop (dataOffset r) r) (omega (arith, length-drop (dataOffset r) r))))
       (λ e. rw e (block-short (dataLength r) (drop (dataOffset r) r) (omega (arith, length-drop (dataOffset r) r))))

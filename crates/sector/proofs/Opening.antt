@@ -11,13 +11,9 @@ use lib.Dec.{eqb, ltb}
 use borrow.Author.Tests.{ltb-true, ltb-false}
 use Rattle.crc.specs.Check.{checkOf, checkBytes, agrees}
 use Rattle.format.specs.Opening.{startsWith, plainOpening, closing, closedAfter}
-use Rattle.sector.proofs.Test.{either, and-false, and-true, and-assoc, eqb-comm}
-
--- Cells fewer than the list o do not start with it.
-pub starts-short : (o c : List ℕ) → length c < length o → startsWith o c ≡ false
-starts-short [] c h = absurd (omega arith)
-starts-short (x ∷ o) [] h = refl
-starts-short (x ∷ o) (y ∷ c) h = rw (starts-short o c (omega arith)) (and-false (eqb x y))
+use Rattle.format.proofs.Judged.{cases}
+use Rattle.format.proofs.Opening.{starts-short}
+use Rattle.sector.proofs.Test.{and-true, and-assoc, eqb-comm}
 
 -- Cells that start with two lists in turn.
 pub starts-append : (o q c : List ℕ) → startsWith (o ++ q) c ≡ (startsWith o c && startsWith q (drop (length o) c))
@@ -64,7 +60,7 @@ closed-three n c h =
 -- Cells that start with an unmarked opening are at least six.
 pub plain-length : (c : List ℕ) → startsWith plainOpening c ≡ true → 6 ≤ length c
 plain-length c e =
-    either (ltb (length c) 6)
+    cases (ltb (length c) 6)
     (λ t.
     let z = sym e ∙ starts-short plainOpening c (ltb-true (length c) 6 t) in
     let y : _≡_ {A = ℕ} 0 1 = cc in

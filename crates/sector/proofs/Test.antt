@@ -4,16 +4,7 @@ use Prim.Native.Nat.{ℕ}
 use mathlib.Core.Bool.{Bool, true, false, _&&_}
 use lib.Dec.{eqb}
 use borrow.Author.Tests.{eq-eqb, ne-eqb, eqb-true, eqb-false}
-
--- A test goes one way or the other.
-pub either : {X : Type 0} (b : Bool) → (b ≡ true → X) → (b ≡ false → X) → X
-either true f g = f refl
-either false f g = g refl
-
--- A conjunction with a test that fails fails.
-pub and-false : (b : Bool) → (b && false) ≡ false
-and-false true = refl
-and-false false = refl
+use Rattle.format.proofs.Judged.{cases}
 
 -- A conjunction with a test that holds is the other test.
 pub and-true : (b : Bool) → (b && true) ≡ b
@@ -28,6 +19,6 @@ and-assoc false b d = refl
 -- Equality of numbers may be tested either way round.
 pub eqb-comm : (a b : ℕ) → eqb a b ≡ eqb b a
 eqb-comm a b =
-    either (eqb b a)
+    cases (eqb b a)
     (λ e. eq-eqb a b (sym (eqb-true b a e)) ∙ sym e)
     (λ e. ne-eqb a b (λ q. eqb-false b a e (sym q)) ∙ sym e)

@@ -2,20 +2,20 @@
 use mathlib.Core.Path.{_≡_, refl, sym, ap, ap₂, _∙_, subst}
 use Prim.Native.Nat.{ℕ, suc, _+_, _≤_, _<_}
 use native.Mathlib.Omega.{arith}
-use mathlib.Core.Bool.{Bool, true, false, _&&_}
-use mathlib.Core.List.{List, [], _∷_, _++_}
+use mathlib.Core.Bool.{Bool, true, false}
+use mathlib.Core.List.{List, [], _∷_}
 use lib.ListN.{length, take, drop, length-append, length-drop}
 use lib.Seq.{drop-drop, drop-append-seam}
-use lib.Dec.{leb, eqb}
-use borrow.Author.Tests.{leb-true, eqb-true}
+use lib.Dec.{leb}
+use borrow.Author.Tests.{leb-true}
 use Rattle.format.specs.Judged.{good}
-use Rattle.format.specs.Lent.{lengthRight, marksLegal, lentForWriting, lentForReading, cells}
+use Rattle.format.specs.Lent.{lengthRight, cells}
 use Rattle.format.specs.Home.{Home, firstCountPlace}
 use Rattle.format.specs.Count.{Settled, unsettled}
 use Rattle.format.specs.Span.{runsToIndex, spanLength, afterOpening, joined, none}
-use Rattle.format.specs.Sector.{Sector, openingLength, isFirst, sectorIn, settle, readSpan}
-use Rattle.format.specs.Accept.{Placed, placedFrom, Accepted, spansOf, acceptCells, accept}
-use Rattle.format.specs.Listing.{Listed, listed}
+use Rattle.format.specs.Sector.{Sector, openingLength, isFirst, settle, readSpan}
+use Rattle.format.specs.Accept.{Placed, placedFrom, Accepted, spansOf, accept}
+use Rattle.format.specs.Listing.{listed}
 use Rattle.format.specs.Add.{endOf}
 use Rattle.format.proofs.Judged.{and-both, false-true}
 use Rattle.format.proofs.Shape.{Shape, cleanSpan, cleanSpans}
@@ -27,12 +27,12 @@ use Rattle.format.proofs.Standing.{FitsCount, info-fits}
 use Rattle.format.proofs.ReadBack.{read-stands}
 use Rattle.format.proofs.ReadsAs.{Reads, accepted-by}
 use Rattle.format.proofs.AcceptedSpans.{accepted-track}
-use Rattle.format.proofs.Pairs.{accepted-pair, lent-length}
+use Rattle.format.proofs.Pairs.{accepted-pair, lent-marks, lent-length}
 use Rattle.format.proofs.SpanCandidates.{shape-rest, none-placed}
 use Rattle.search.proofs.Cells.{length-cells}
 use Rattle.sectors.specs.declared.SectorAt.{SectorAt}
 use Rattle.sectors.specs.Stepped.{Stepped, steppedAt, addressAt, asStepped, asListed}
-use Rattle.sectors.proofs.Stepping.{Stepping, shownBy, stepping-made}
+use Rattle.sectors.proofs.Stepping.{Stepping, stepping-made}
 
 -- From place p on the track t with the marks m has exactly the sectors xs; `first` says that the first of them is sector 0.
 abbrev pub SectorsFrom : List ℕ → List ℕ → ℕ → Bool → List Placed → Type 0
@@ -90,13 +90,6 @@ pub record Started (t m : List ℕ) (a : Accepted) : Type 0 where
   pub length-least : 3815 ≤ length t
   pub length-most : length t ≤ 4002
 
--- A pair that is lent within the rule has as many marks as bytes.
-marks-as-many : (t m : List ℕ) → lentForReading t m ≡ true → length m ≡ length t
-unfolding lentForReading lentForWriting
-marks-as-many t m e =
-    let w = and-both (lengthRight (length t) && eqb (length m) (length t)) (marksLegal m) e in
-    eqb-true (length m) (length t) (and-both (lengthRight (length t)) (eqb (length m) (length t)) (w .0) .1)
-
 -- Stepping over an accepted track starts so.
 pub accepted-start : (t m : List ℕ) (a : Accepted) → accept t m ≡ good a → Started t m a
 unfolding lengthRight
@@ -119,7 +112,7 @@ accepted-start t m a e =
       start-least = omega arith;
       start-most = omega arith;
       cells-length = l .0;
-      marks-length = marks-as-many t m (b .0);
+      marks-length = lent-marks t m (b .0);
       length-least = least;
       length-most = most;
     }

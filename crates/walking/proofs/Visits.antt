@@ -14,6 +14,7 @@ use Rattle.format.specs.Candidate.{Candidate, candidates}
 use Rattle.format.specs.Walk.{Visited, visited, step, placeAfter}
 use Rattle.format.proofs.Judged.{cases}
 use Rattle.format.proofs.WalkSteps.{steps, visits, walk-visits, walk-refuses}
+use Rattle.reader.proofs.FindSteps.{step-wrong}
 use Rattle.reader.specs.Finding.{judgedVisit}
 use Rattle.reader.specs.declared.walk.Visit.{Visit}
 use Rattle.walking.specs.Walked.{readerAt, stepOf, afterStep, visitOf}
@@ -107,10 +108,6 @@ lent-visits n t m l =
     ∙ getD-take n (suc n) (visits (candidates (cells t m)) ++ replicate (suc n) (refused sectorMissing)) (refused sectorMissing) (omega arith)
     ∙ getD-behind (visits (candidates (cells t m))) n (suc n) (refused sectorMissing)
 
-step-refuses : (p : ℕ) (t m : List ℕ) → lentForReading t m ≡ false → step p t m ≡ refused lentWrong
-unfolding step
-step-refuses p t m l = rw l
-
 -- After no step it is where it was.
 pub reached-none : (p : ℕ) (t m : List ℕ) → p ≡ reached 0 p t m
 unfolding reached
@@ -122,4 +119,4 @@ unfolding visitOf
 step-visits n t m =
     cases (lentForReading t m)
     (λ l. rw l (lent-visits n t m l))
-    (λ l. rw l (step-refuses (reached n 0 t m) t m l))
+    (λ l. rw l (step-wrong (reached n 0 t m) t m l))

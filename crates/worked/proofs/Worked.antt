@@ -2,7 +2,7 @@
 use mathlib.Core.Path.{_≡_, refl, ap₂}
 use Prim.Native.Nat.{ℕ}
 use native.Mathlib.Omega.{arith}
-use mathlib.Core.Bool.{Bool, true, false, _&&_}
+use mathlib.Core.Bool.{true, _&&_}
 use mathlib.Core.List.{List, [], _∷_}
 use lib.Dec.{eqb}
 use borrow.Author.Tests.{eqb-true}
@@ -20,12 +20,9 @@ use Rattle.format.specs.Accept.{judgeMarks, readSpans, placedFrom, among, judge
 use Rattle.format.specs.Written.{gapOne, countInfo, writtenBlock, writtenKey, writtenData, countOpening, writtenSector, asPair, gapAfter, reach, writtenSpans, writtenBehind}
 use Rattle.format.specs.Blank.{contentRight, namedBy, blankRight, writtenHead, blankSector, blank}
 use Rattle.format.specs.Add.{bothLent, endOf, fromNumber, judgeAbsent, addedFlag, addedSector, addedTo, addCells, add}
+use Rattle.format.proofs.Judged.{and-both}
 use Rattle.worked.specs.Tracks.{address, blankOf, twoSectors, acceptOf, numbers, placesIn, places, placesOf, sectorOf, byHand, answerByHand, answerOfZeros}
 use Rattle.worked.specs.Table.{Case, sameNumbers, allHold, EachHolds, starred, further}
-
-both : (a b : Bool) → (a && b) ≡ true → (a ≡ true) × (b ≡ true)
-both true b e = (refl, e)
-both false b e = absurd (let z : _≡_ {A = ℕ} 0 1 = cc in omega arith)
 
 same-equal : (xs ys : List ℕ) → sameNumbers xs ys ≡ true → xs ≡ ys
 unfolding sameNumbers
@@ -33,7 +30,7 @@ same-equal [] [] e = refl
 same-equal [] (y ∷ ys) e = absurd (let z : _≡_ {A = ℕ} 0 1 = cc in omega arith)
 same-equal (x ∷ xs) [] e = absurd (let z : _≡_ {A = ℕ} 0 1 = cc in omega arith)
 same-equal (x ∷ xs) (y ∷ ys) e =
-    let h = both (eqb x y) (sameNumbers xs ys) e in
+    let h = and-both (eqb x y) (sameNumbers xs ys) e in
     ap₂ (λ (z : ℕ) (zs : List ℕ). z ∷ zs) (eqb-true x y (h .0)) (same-equal xs ys (h .1))
 
 -- A table that passes its test has only rows that hold.
@@ -41,7 +38,7 @@ pub each-holds : (cs : List Case) → allHold cs ≡ true → EachHolds cs
 unfolding allHold
 each-holds [] e = tt
 each-holds (x ∷ cs) e =
-    let h = both (sameNumbers (x .computed) (x .stated)) (allHold cs) e in
+    let h = and-both (sameNumbers (x .computed) (x .stated)) (allHold cs) e in
     (same-equal (x .computed) (x .stated) (h .0), each-holds cs (h .1))
 
 tables-pass : (allHold starred && allHold further) ≡ true
@@ -59,8 +56,8 @@ tables-pass = refl
 
 -- The starred worked numbers.
 pub starred-hold : EachHolds starred
-starred-hold = each-holds starred (both (allHold starred) (allHold further) tables-pass .0)
+starred-hold = each-holds starred (and-both (allHold starred) (allHold further) tables-pass .0)
 
 -- Those of the numbers 6 to 8 that have no star.
 pub further-hold : EachHolds further
-further-hold = each-holds further (both (allHold starred) (allHold further) tables-pass .1)
+further-hold = each-holds further (and-both (allHold starred) (allHold further) tables-pass .1)

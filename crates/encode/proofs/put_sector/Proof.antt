@@ -14,7 +14,7 @@ use Rattle.format.proofs.Standing.{FitsCount}
 use Rattle.encode.specs.Room.{sectorFrom, sectorSize}
 use Rattle.encode.specs.Bytes.{countBytes}
 use Rattle.encode.proofs.Laid.{laid-as, laid-next}
-use Rattle.encode.proofs.Cells.{unmarked-bytes}
+use Rattle.format.proofs.Opening.{unmarked-below}
 use Rattle.encode.proofs.Sectors.{count-length, sector-bytes}
 use Rattle.encode.proofs.put_sector.Statement.{statement}
 use Rattle.encode.proofs.put_sector.Tie as tie
@@ -50,8 +50,8 @@ returns c =
     let d = a .body .now in
     let old = a .t .now in
     let S : Sector = sectorFrom (a .first) (a .flag) (a .cylinder) (a .head) (a .s) (a .key .now) (a .body .now) in
-    let u : unmarked k ≡ true = unmarked-bytes k (λ i. omega (arith, c .before .before .before .before .before .before .before .before .before .before .before .before .before .before .before .before .before .shared-slice-known .given i)) in
-    let v : unmarked d ≡ true = unmarked-bytes d (λ i. omega (arith, c .before .before .before .before .before .before .before .before .before .before .before .before .before .before .before .before .shared-slice-known2 .given i)) in
+    let u : unmarked k ≡ true = unmarked-below k (λ i. omega (arith, c .before .before .before .before .before .before .before .before .before .before .before .before .before .before .before .before .before .shared-slice-known .given i)) in
+    let v : unmarked d ≡ true = unmarked-below d (λ i. omega (arith, c .before .before .before .before .before .before .before .before .before .before .before .before .before .before .before .before .shared-slice-known2 .given i)) in
     let f : FitsCount S = record {
       flag-fits = omega (arith, z);
       cylinder-fits = omega (arith, z);

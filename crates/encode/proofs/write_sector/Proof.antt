@@ -11,7 +11,7 @@ use Rattle.format.proofs.Standing.{FitsCount}
 use Rattle.encode.specs.Room.{sectorFrom, sectorSize}
 use Rattle.encode.proofs.Laid.{laid-as}
 use Rattle.encode.proofs.Room.{first-short, second-short}
-use Rattle.encode.proofs.Cells.{unmarked-bytes}
+use Rattle.format.proofs.Opening.{unmarked-below}
 use Rattle.encode.proofs.Sectors.{sector-length, sector-marks, key-long, data-long, sector-unfit, sector-fits}
 use Rattle.encode.proofs.write_sector.Statement.{statement}
 use Rattle.encode.proofs.write_sector.Tie as tie
@@ -69,8 +69,8 @@ returns-5 c =
     let one = c .before .before .before .before .before .before .put-sector in
     let two = c .before .before .put-marks in
     let S : Sector = sectorFrom (a .first) (a .flag) (a .cylinder) (a .head) (a .s) (a .key .now) (a .body .now) in
-    let u : unmarked (a .key .now) ≡ true = unmarked-bytes (a .key .now) (λ i. omega (arith, c .before .before .before .before .before .before .before .before .before .before .before .before .before .before .shared-slice-known .given i)) in
-    let v : unmarked (a .body .now) ≡ true = unmarked-bytes (a .body .now) (λ i. omega (arith, c .before .before .before .before .before .before .before .before .before .before .before .before .before .shared-slice-known2 .given i)) in
+    let u : unmarked (a .key .now) ≡ true = unmarked-below (a .key .now) (λ i. omega (arith, c .before .before .before .before .before .before .before .before .before .before .before .before .before .before .shared-slice-known .given i)) in
+    let v : unmarked (a .body .now) ≡ true = unmarked-below (a .body .now) (λ i. omega (arith, c .before .before .before .before .before .before .before .before .before .before .before .before .before .shared-slice-known2 .given i)) in
     let f : FitsCount S = record {
       flag-fits = omega arith;
       cylinder-fits = omega arith;

@@ -6,7 +6,7 @@ use borrow.Author.Needs.{needs}
 use lib.ListN.{length, length-drop}
 use Rattle.format.specs.Count.{settled}
 use Rattle.sector.specs.As.{asAddress, asHome}
-use Rattle.reader.proofs.AcceptBytes.{part-all}
+use Rattle.format.proofs.Lists.{part-all}
 use Rattle.reader.proofs.AcceptAnswers.{answers-two}
 use Rattle.reader.proofs.AcceptSpans.{front, rest-none, rest-next, front-refused, front-good}
 use borrow.Fn.Kinds.{In}

@@ -3,7 +3,8 @@ use mathlib.Core.Path.{sym, _∙_}
 use native.Mathlib.Omega.{arith}
 use borrow.Author.Tests.{eq-eqb, ne-eqb}
 use Rattle.format.specs.Opening.{plainOpening}
-use Rattle.sector.proofs.Opening.{starts-short, plain-six}
+use Rattle.format.proofs.Opening.{starts-short}
+use Rattle.sector.proofs.Opening.{plain-six}
 use borrow.Author.Needs.{needs}
 use Rattle.sector.proofs.bytes.starts_plain.Statement.{statement}
 use Rattle.sector.proofs.bytes.starts_plain.Tie as tie
