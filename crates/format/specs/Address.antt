@@ -7,6 +7,7 @@ use lib.Dec.{leb, eqb}
 use Rattle.crc.specs.Check.{pick}
 use Rattle.format.specs.Flag.{namesItself}
 
+-- Which track of a pack: C, the cylinder, and H, the head.
 pub record Address : Type 0 where
   pub cylinder : ℕ
   pub head : ℕ
@@ -27,6 +28,7 @@ addressBytes a = a .cylinder / 256 ∷ a .cylinder % 256 ∷ a .head / 256 ∷ a
 unfoldable pub addressInRange : Address → Bool
 addressInRange a = leb (a .cylinder) 202 && leb (a .head) 9
 
+-- Both name the same track.
 unfoldable pub sameAddress : Address → Address → Bool
 sameAddress a b = eqb (a .cylinder) (b .cylinder) && eqb (a .head) (b .head)
 

@@ -1,6 +1,7 @@
 -- The answer of a call: its number and its place, with one name for each row of the table.
 use Prim.Native.Nat.{ℕ}
 
+-- An answer: the number of its row in the table, and the place of the fault in bytes after index.
 pub record Answer : Type 0 where
   pub number : ℕ
   pub place : ℕ

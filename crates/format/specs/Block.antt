@@ -54,8 +54,10 @@ dataRight r =
     let c = drop (dataOffset r) r in
     pick (eqb (dataLength r) 0) (startsWith (plainOpening ++ 0x00 ∷ []) c) (blockRight (dataLength r) c)
 
+-- The key's information; none where KL = 0.
 unfoldable pub keyInfo : List ℕ → List ℕ
 keyInfo r = blockInfo (keyLength r) (drop keyOffset r)
 
+-- The data's information; none where DL = 0.
 unfoldable pub dataInfo : List ℕ → List ℕ
 dataInfo r = blockInfo (dataLength r) (drop (dataOffset r) r)

@@ -9,9 +9,11 @@ use Rattle.format.specs.Flag.{countFlagRight}
 use Rattle.format.specs.Address.{Address, word, addressIn, addressRight, sameAddress}
 use Rattle.format.specs.Home.{Home}
 
+-- The flag.
 abbrev pub countFlag : List ℕ → ℕ
 countFlag r = getD r 0 0
 
+-- C and H.
 abbrev pub countAddress : List ℕ → Address
 countAddress r = addressIn r
 

@@ -13,6 +13,7 @@ use Rattle.format.specs.Block.{keyOffset, dataOffset, blocksFit, keyRigh
 use Rattle.format.specs.Sector.{openingLength}
 use Rattle.format.specs.Candidate.{Candidate, candidates}
 
+-- Which part of a sector is asked for.
 pub data Wanted : Type 0 where
   theKey theData : Wanted
 
@@ -40,10 +41,11 @@ only [] = refused sectorMissing
 only (x ∷ []) = good x
 only (x ∷ y ∷ r) = refused (sectorRepeated (y .place))
 
--- Where the key of a candidate opens, and where its data block does.
+-- Where the key of a candidate opens.
 abbrev pub keyPlace : Candidate → ℕ
 keyPlace x = x .place + openingLength (x .first) + keyOffset
 
+-- Where its data block opens.
 abbrev pub dataPlace : Candidate → ℕ
 dataPlace x = x .place + openingLength (x .first) + dataOffset (x .rest)
 

@@ -24,6 +24,7 @@ findHome c = homeFrom 15 23 c
 unfoldable pub homeBytes : ℕ → List ℕ → List ℕ
 homeBytes p c = bytesOf (take 8 (drop (p + 6) c))
 
+-- What home says of the track, with the place at which home opens.
 pub record Home : Type 0 where
   pub place : ℕ
   pub flag : ℕ

@@ -3,6 +3,7 @@ use mathlib.Core.Bool.{Bool, true, false}
 use Rattle.crc.specs.Check.{pick}
 use Rattle.format.specs.Answer.{Answer, done}
 
+-- A value that was found good, or the answer that refuses it.
 pub data Judged (A : Type 0) : Type 0 where
   good : A → Judged A
   refused : Answer → Judged A

@@ -25,6 +25,7 @@ pub record Listed : Type 0 where
 abbrev pub firstInfoPlace : Placed → ℕ
 firstInfoPlace x = x .place + openingLength (x .sector .first) + keyOffset + 6
 
+-- The record of a sector.
 unfoldable pub listed : Placed → Listed
 listed x =
     let k = length (x .sector .keyBytes) in

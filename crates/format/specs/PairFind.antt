@@ -23,9 +23,11 @@ pub record Paired : Type 0 where
   pub which : ℕ
   pub outcome : Judged Part
 
+-- It speaks of the first track.
 abbrev pub ofFirst : Judged Part → Paired
 ofFirst j = record { which = 0; outcome = j }
 
+-- It speaks of the second track.
 abbrev pub ofSecond : Judged Part → Paired
 ofSecond j = record { which = 1; outcome = j }
 

@@ -12,6 +12,7 @@ use Rattle.format.specs.Home.{Home}
 use Rattle.format.specs.Count.{Settled, unsettled, settled, countFlag, countAddress, countNumber, countFits, countClosed, countFieldsRight}
 use Rattle.format.specs.Block.{keyOffset, dataOffset, blocksFit, keyRight, dataRight, keyInfo, dataInfo}
 
+-- A sector: what its count says, and the information of its key and its data block.
 pub record Sector : Type 0 where
   -- Is it sector 0, whose count opens unmarked?
   pub first : Bool

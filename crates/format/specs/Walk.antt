@@ -18,6 +18,7 @@ pub record Visited : Type 0 where
   pub keyLength : ℕ
   pub dataLength : ℕ
 
+-- What a step gives of a candidate.
 unfoldable pub visited : Candidate → Visited
 visited x =
     record {

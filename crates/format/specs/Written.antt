@@ -59,6 +59,7 @@ pub record Pair : Type 0 where
   pub track : List ℕ
   pub marks : List ℕ
 
+-- Cells as bytes and marks.
 unfoldable pub asPair : Judged (List ℕ) → Judged Pair
 asPair j = then j (λ c. good (record { track = bytesOf c; marks = marksOf c }))
 

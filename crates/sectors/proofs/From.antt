@@ -31,7 +31,7 @@ use Rattle.format.proofs.Pairs.{accepted-pair, lent-marks, lent-length}
 use Rattle.format.proofs.SpanCandidates.{shape-rest, none-placed}
 use Rattle.search.proofs.Cells.{length-cells}
 use Rattle.sectors.specs.declared.SectorAt.{SectorAt}
-use Rattle.sectors.specs.Stepped.{Stepped, steppedAt, addressAt, asStepped, asListed}
+use Rattle.sectors.specs.Stepped.{Stepped, steppedAt, addressAt, asStepped}
 use Rattle.sectors.proofs.Stepping.{Stepping, stepping-made}
 
 -- From place p on the track t with the marks m has exactly the sectors xs; `first` says that the first of them is sector 0.
@@ -147,7 +147,6 @@ pub record Step (t m : List ℕ) (p : ℕ) (first : Bool) (xs : List Placed) (s 
   pub address-is : addressAt first p (cells t m) ≡ x .sector .address
   pub key-length-is : s .«key_length» ≡ length (x .sector .keyBytes)
   pub data-length-is : s .«data_length» ≡ length (x .sector .dataBytes)
-  pub listed-is : asListed s ≡ listed x
   pub end-is : s .end ≡ endOf x
   pub next-is : s .next ≡ p + length (x .span)
   pub last-is : s .last ≡ none later
@@ -187,7 +186,6 @@ step-made t m p first x xs s v r e =
       address-is = v .address-is;
       key-length-is = kl;
       data-length-is = dl;
-      listed-is = λ i. record { flag = flag i; number = number i; keyLength = kl i; dataLength = dl i; keyPlace = kp i; dataPlace = dp i };
       end-is = end;
       next-is = next;
       last-is = ap (λ (z : Stepped). z .last) e ∙ v .last-is;

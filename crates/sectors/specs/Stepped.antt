@@ -10,7 +10,6 @@ use Rattle.format.specs.Count.{countFlag, countAddress, countNumber, keyLength,
 use Rattle.format.specs.Block.{keyOffset, dataOffset, blockEnd}
 use Rattle.format.specs.Span.{runsToIndex, spanLength, afterOpening}
 use Rattle.format.specs.Sector.{openingLength}
-use Rattle.format.specs.Listing.{Listed}
 use Rattle.sectors.specs.declared.SectorAt.{SectorAt}
 
 -- The fields of a count, the places of the information, where the data block ends, where the next span starts, and does this one run to index?
@@ -74,16 +73,4 @@ asStepped s =
       end = s .end;
       next = s .next;
       last = s .last;
-    }
-
--- The record for the caller's list that it makes.
-abbrev pub asListed : SectorAt → Listed
-asListed s =
-    record {
-      flag = s .flag;
-      number = s .number;
-      keyLength = s .«key_length»;
-      dataLength = s .«data_length»;
-      keyPlace = s .«key_place»;
-      dataPlace = s .«data_place»;
     }
