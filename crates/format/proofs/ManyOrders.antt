@@ -1,25 +1,20 @@
 -- Any number of corrections of sectors of different number: every order of them that is done gives the same track.
 use mathlib.Core.Path.{_≡_, refl, sym, ap, ap₂, _∙_, subst}
-use Prim.Native.Nat.{ℕ, _+_, _-_, _≤_}
-use native.Mathlib.Omega.{arith}
+use Prim.Native.Nat.{ℕ, _≤_}
 use mathlib.Core.Bool.{Bool, true, false, _||_}
 use mathlib.Core.List.{List, [], _∷_, _++_, map, map-map, map-id, List·Permᴰ, List·Permᴰ·nil, List·Permᴰ·cons, List·Permᴰ·swap, List·Permᴰ·trans}
-use lib.ListN.{length, take, replicate, length-append}
-use lib.Dec.{eqb}
-use borrow.Author.Tests.{eqb-true, ne-eqb, leb-true}
+use lib.ListN.{length, take}
 use Rattle.crc.specs.Check.{pick}
 use Rattle.format.specs.Judged.{Judged, good, then}
 use Rattle.format.specs.Home.{Home, firstCountPlace}
 use Rattle.format.specs.Span.{joined}
 use Rattle.format.specs.Sector.{Sector}
 use Rattle.format.specs.Accept.{Accepted, spansOf, acceptCells}
-use Rattle.format.specs.Written.{writtenSector, gapAfter, reach, writtenSpans}
 use Rattle.format.specs.Correct.{withContent, sectorsOf}
 use Rattle.format.specs.Together.{Correction, replacedBy, corrected}
 use Rattle.format.proofs.Judged.{cases, false-true, good-inj, then-good}
-use Rattle.format.proofs.WrittenSpans.{length-written-spans}
-use Rattle.format.proofs.Replaced.{Bytes, named, replaced-number, replaced-one, replaced-other}
-use Rattle.format.proofs.Relaid.{relaid, room, length-relaid}
+use Rattle.format.proofs.Replaced.{Bytes, named, named-number, named-apart, replaced-number, replaced-one, replaced-other}
+use Rattle.format.proofs.Relaid.{relaid, relaid-again}
 use Rattle.format.proofs.AcceptedSpans.{Track, accepted-track}
 use Rattle.format.proofs.Corrected.{Done, corrected-done, done-track}
 use Rattle.format.proofs.Orders.{correct-accepted}
@@ -54,10 +49,6 @@ module _ (gap : ℕ → ℕ → ℕ) where
   inTurn c [] = good c
   inTurn c (x ∷ xs) = then (corrected gap c x) (λ d. inTurn d xs)
 
-named-number : (x : Correction) (s r : Sector) → s .number ≡ r .number → named x s ≡ named x r
-unfolding named
-named-number x s r e = ap (λ (n : ℕ). eqb n (x .number)) e
-
 any-number : (xs : List Correction) (s r : Sector) → s .number ≡ r .number → namedAny xs s ≡ namedAny xs r
 unfolding namedAny
 any-number [] s r e = refl
@@ -74,14 +65,10 @@ unfolding namedAny withOwn
 own-other [] s n = refl
 own-other (x ∷ xs) s n = cases (named x s) (λ e. false-true (sym (rw e at n))) (λ e. rw e (own-other xs s (rw e at n)))
 
-apart-named : (x y : Correction) → Apart x y → (s : Sector) → named x s ≡ true → named y s ≡ false
-unfolding named
-apart-named x y ne s e = ne-eqb (s .number) (y .number) (λ q. ne (sym (eqb-true (s .number) (x .number) e) ∙ q))
-
 apart-any : (x : Correction) (xs : List Correction) → Every (Apart x) xs → (s : Sector) → named x s ≡ true → namedAny xs s ≡ false
 unfolding namedAny
 apart-any x [] v s e = refl
-apart-any x (y ∷ ys) v s e = rw (apart-named x y (v .0) s e) (apart-any x ys (v .1) s e)
+apart-any x (y ∷ ys) v s e = rw (named-apart x y (v .0) s e) (apart-any x ys (v .1) s e)
 
 -- The first correction, and the others on what it gives, are all of them.
 own-cons : (x : Correction) (xs : List Correction) → Every (Apart x) xs → (s : Sector) → withOwn xs (replacedBy x s) ≡ withOwn (x ∷ xs) s
@@ -129,7 +116,7 @@ any-perm (List·Permᴰ·trans p q) s = any-perm p s ∙ any-perm q s
 
 own-swap : (x y : Correction) (xs : List Correction) → Apart x y → (s : Sector) → withOwn (x ∷ y ∷ xs) s ≡ withOwn (y ∷ x ∷ xs) s
 unfolding withOwn
-own-swap x y xs ne s = cases (named x s) (λ e. rw (e, apart-named x y ne s e)) (λ e. rw e)
+own-swap x y xs ne s = cases (named x s) (λ e. rw (e, named-apart x y ne s e)) (λ e. rw e)
 
 own-perm : {xs ys : List Correction} → List·Permᴰ xs ys → AllApart xs → (s : Sector) → withOwn xs s ≡ withOwn ys s
 unfolding withOwn
@@ -146,41 +133,6 @@ module _ (gap : ℕ → ℕ → ℕ) where
   relaid-none hit never (g ∷ gs) [] = refl
   relaid-none hit never (g ∷ gs) (s ∷ ss) = rw (never s) (ap (λ (ks : List (List ℕ)). g ∷ ks) (relaid-none hit never gs ss))
 
-  module _ (hit : Sector → Bool) (f : Sector → Sector) (keeps : (s : Sector) → hit (f s) ≡ hit s) (other : (s : Sector) → hit s ≡ false → f s ≡ s) where
-    -- Written spans that are written afresh from a sector on, from which on f changes the sectors, are written spans.
-    relaid-written : (n : ℕ) (ss : List Sector) → reach gap ss ≤ n → relaid gap hit (writtenSpans gap n ss) (map f ss) ≡ writtenSpans gap n (map f ss)
-    unfolding relaid writtenSpans reach
-    relaid-written n [] h = refl
-    relaid-written n (s ∷ []) h =
-        rw (keeps s)
-        (cases (hit s)
-        (λ e. rw e (ap (λ (k : ℕ). writtenSpans gap k (f s ∷ [])) (length-written-spans gap n s [] h)))
-        (λ e. rw (e, other s e)))
-    relaid-written n (s ∷ r ∷ ss) h =
-        rw (keeps s)
-        (cases (hit s)
-        (λ e. rw e (ap (λ (k : ℕ). writtenSpans gap k (map f (s ∷ r ∷ ss))) (length-written-spans gap n s (r ∷ ss) h)))
-        (λ e. rw (e, other s e)
-        (ap (λ (gs : List (List ℕ)). (writtenSector s ++ replicate (gapAfter gap s) 0xFF) ∷ gs)
-        (relaid-written (n - (length (writtenSector s) + gapAfter gap s)) (r ∷ ss) (omega arith)))))
-
-    -- Writing afresh from the first sector of a kind on and then, with other sectors by f, from the first that is hit, is writing afresh from the left one of the two.
-    relaid-again : (before : Sector → Bool) → ((s : Sector) → before (f s) ≡ before s) → (gs : List (List ℕ)) (ss : List Sector) → room gap before gs ss ≡ true
-        → relaid gap hit (relaid gap before gs ss) (map f ss) ≡ relaid gap (λ s. before s || hit s) gs (map f ss)
-    unfolding relaid room
-    relaid-again before stays [] ss h = refl
-    relaid-again before stays (g ∷ gs) [] h = refl
-    relaid-again before stays (g ∷ gs) (s ∷ ss) h =
-        let n : ℕ = length (joined (g ∷ gs)) in
-        cases (before s)
-        (λ d. rw (stays s, d) (relaid-written n (s ∷ ss) (omega (arith, leb-true (reach gap (s ∷ ss) + 13) n (rw d at h)))))
-        (λ d.
-        let long : length (joined (g ∷ relaid gap before gs ss)) ≡ n =
-        omega (arith, length-append g (joined (relaid gap before gs ss)), length-append g (joined gs), length-relaid gap before gs ss (rw d at h)) in
-        cases (hit s)
-        (λ e. rw (stays s, d, keeps s, e) (ap (λ (k : ℕ). writtenSpans gap k (map f (s ∷ ss))) long))
-        (λ e. rw (stays s, d, keeps s, e) (ap (λ (ks : List (List ℕ)). g ∷ ks) (relaid-again before stays gs ss (rw d at h)))))
-
   module _ (least : (k d : ℕ) → 21 ≤ gap k d) where
     -- Corrections that are done one after the other keep the spans up to the leftmost of their sectors and write afresh from there.
     pub in-turn-spans : (head : List ℕ) (h : Home) (xs : List Correction) → AllApart xs → Every Bytes xs
@@ -196,7 +148,7 @@ module _ (gap : ℕ → ℕ → ℕ) where
         let ks : List (List ℕ) = relaid gap (named x) gs one in
         let u : Track head h ks one = done-track gap head h gs ss t least x (k .0) (b .0) r in
         let again : relaid gap (namedAny xs) ks (map (withOwn xs) one) ≡ relaid gap (namedAny (x ∷ xs)) gs (map (withOwn xs) one) =
-        relaid-again (namedAny xs) (withOwn xs) (λ s. any-number xs (withOwn xs s) s (own-number xs s)) (own-other xs)
+        relaid-again gap (namedAny xs) (withOwn xs) (λ s. any-number xs (withOwn xs s) s (own-number xs s)) (own-other xs)
         (named x) (λ s. named-number x (withOwn xs s) s (own-number xs s)) gs one (r .enough) in
         ap (λ (zs : List (List ℕ)). head ++ joined zs) (ap (relaid gap (namedAny (x ∷ xs)) gs) (sym (map-own x xs (v .0) ss)) ∙ sym again)
         ∙ in-turn-spans head h xs (v .1) (b .1) ks one u d (ap (λ (z : List ℕ). inTurn gap z xs) (r .becomes) ∙ k .2)

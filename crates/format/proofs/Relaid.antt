@@ -53,23 +53,9 @@ module _ (gap : ℕ → ℕ → ℕ) where
       let ih : length (joined (relaid hit gs ss)) ≡ length (joined gs) = length-relaid hit gs ss (rw e at h) in
       rw e (omega (arith, length-append g (joined (relaid hit gs ss)), length-append g (joined gs), ih)))
 
-  -- Written spans that are written afresh from a sector on are written spans.
-  relaid-written : (b : Correction) (n : ℕ) (ss : List Sector) → reach gap ss ≤ n
-      → relaid (named b) (writtenSpans gap n ss) (map (replacedBy b) ss) ≡ writtenSpans gap n (map (replacedBy b) ss)
-  unfolding relaid writtenSpans reach
-  relaid-written b n [] h = refl
-  relaid-written b n (s ∷ []) h =
-      rw (replaced-named b b s)
-      (cases (named b s)
-      (λ e. rw e (ap (λ (k : ℕ). writtenSpans gap k (replacedBy b s ∷ [])) (length-written-spans gap n s [] h)))
-      (λ e. rw (e, replaced-other b s e)))
-  relaid-written b n (s ∷ r ∷ ss) h =
-      rw (replaced-named b b s)
-      (cases (named b s)
-      (λ e. rw e (ap (λ (k : ℕ). writtenSpans gap k (map (replacedBy b) (s ∷ r ∷ ss))) (length-written-spans gap n s (r ∷ ss) h)))
-      (λ e. rw (e, replaced-other b s e)
-      (ap (λ (gs : List (List ℕ)). (writtenSector s ++ replicate (gapAfter gap s) 0xFF) ∷ gs)
-      (relaid-written b (n - (length (writtenSector s) + gapAfter gap s)) (r ∷ ss) (omega arith)))))
+  length-kept : (hit : Sector → Bool) (g : List ℕ) (gs : List (List ℕ)) (ss : List Sector) → room hit gs ss ≡ true
+      → length (joined (g ∷ relaid hit gs ss)) ≡ length (joined (g ∷ gs))
+  length-kept hit g gs ss h = omega (arith, length-append g (joined (relaid hit gs ss)), length-append g (joined gs), length-relaid hit gs ss h)
 
   leb-sub : (a b r n : ℕ) → a + b ≤ n → leb (r + 13) (n - (a + b)) ≡ leb (a + (b + r) + 13) n
   leb-sub a b r n h =
@@ -77,64 +63,82 @@ module _ (gap : ℕ → ℕ → ℕ) where
       (λ e. e ∙ sym (le-leb (a + (b + r) + 13) n (omega (arith, leb-true (r + 13) (n - (a + b)) e))))
       (λ e. e ∙ sym (lt-leb (a + (b + r) + 13) n (omega (arith, leb-false (r + 13) (n - (a + b)) e))))
 
-  room-written : (b : Correction) (n : ℕ) (s : Sector) (ss : List Sector) → reach gap (s ∷ ss) ≤ n → anyHit (named b) (s ∷ ss) ≡ true
-      → room (named b) (writtenSpans gap n (s ∷ ss)) (map (replacedBy b) (s ∷ ss)) ≡ leb (reach gap (map (replacedBy b) (s ∷ ss)) + 13) n
-  unfolding room writtenSpans reach anyHit
-  room-written b n s [] h a =
-      rw (replaced-named b b s)
-      (cases (named b s)
-      (λ e. rw (e, length-written-spans gap n s [] h))
-      (λ e. false-true (rw e at a)))
-  room-written b n s (r ∷ ss) h a =
-      rw (replaced-named b b s)
-      (cases (named b s)
-      (λ e. rw (e, length-written-spans gap n s (r ∷ ss) h))
-      (λ e. rw (e, replaced-other b s e)
-      (room-written b (n - (length (writtenSector s) + gapAfter gap s)) r ss (omega arith) (rw e at a)
-      ∙ leb-sub (length (writtenSector s)) (gapAfter gap s) (reach gap (map (replacedBy b) (r ∷ ss))) n (omega arith))))
+  -- A change f of the sectors that are hit, after which the same ones are hit.
+  module _ (hit : Sector → Bool) (f : Sector → Sector) (keeps : (s : Sector) → hit (f s) ≡ hit s) (other : (s : Sector) → hit s ≡ false → f s ≡ s) where
+    -- Written spans that are written afresh from a sector on are written spans.
+    relaid-written : (n : ℕ) (ss : List Sector) → reach gap ss ≤ n → relaid hit (writtenSpans gap n ss) (map f ss) ≡ writtenSpans gap n (map f ss)
+    unfolding relaid writtenSpans reach
+    relaid-written n [] h = refl
+    relaid-written n (s ∷ []) h =
+        rw (keeps s)
+        (cases (hit s)
+        (λ e. rw e (ap (λ (k : ℕ). writtenSpans gap k (f s ∷ [])) (length-written-spans gap n s [] h)))
+        (λ e. rw (e, other s e)))
+    relaid-written n (s ∷ r ∷ ss) h =
+        rw (keeps s)
+        (cases (hit s)
+        (λ e. rw e (ap (λ (k : ℕ). writtenSpans gap k (map f (s ∷ r ∷ ss))) (length-written-spans gap n s (r ∷ ss) h)))
+        (λ e. rw (e, other s e)
+        (ap (λ (gs : List (List ℕ)). (writtenSector s ++ replicate (gapAfter gap s) 0xFF) ∷ gs)
+        (relaid-written (n - (length (writtenSector s) + gapAfter gap s)) (r ∷ ss) (omega arith)))))
 
-  length-kept : (hit : Sector → Bool) (g : List ℕ) (gs : List (List ℕ)) (ss : List Sector) → room hit gs ss ≡ true
-      → length (joined (g ∷ relaid hit gs ss)) ≡ length (joined (g ∷ gs))
-  length-kept hit g gs ss h = omega (arith, length-append g (joined (relaid hit gs ss)), length-append g (joined gs), length-relaid hit gs ss h)
+    -- They have room exactly when the changed sectors have.
+    room-written : (n : ℕ) (s : Sector) (ss : List Sector) → reach gap (s ∷ ss) ≤ n → anyHit hit (s ∷ ss) ≡ true
+        → room hit (writtenSpans gap n (s ∷ ss)) (map f (s ∷ ss)) ≡ leb (reach gap (map f (s ∷ ss)) + 13) n
+    unfolding room writtenSpans reach anyHit
+    room-written n s [] h a =
+        rw (keeps s)
+        (cases (hit s)
+        (λ e. rw (e, length-written-spans gap n s [] h))
+        (λ e. false-true (rw e at a)))
+    room-written n s (r ∷ ss) h a =
+        rw (keeps s)
+        (cases (hit s)
+        (λ e. rw (e, length-written-spans gap n s (r ∷ ss) h))
+        (λ e. rw (e, other s e)
+        (room-written (n - (length (writtenSector s) + gapAfter gap s)) r ss (omega arith) (rw e at a)
+        ∙ leb-sub (length (writtenSector s)) (gapAfter gap s) (reach gap (map f (r ∷ ss))) n (omega arith))))
 
-  module _ (a b : Correction) where
+    module _ (before : Sector → Bool) (stays : (s : Sector) → before (f s) ≡ before s) where
+      -- Writing afresh from the first sector of a kind on and then, with the sectors changed, from the first that is hit, is writing afresh from the left one of the two.
+      pub relaid-again : (gs : List (List ℕ)) (ss : List Sector) → room before gs ss ≡ true
+          → relaid hit (relaid before gs ss) (map f ss) ≡ relaid (λ s. before s || hit s) gs (map f ss)
+      unfolding relaid room
+      relaid-again [] ss h = refl
+      relaid-again (g ∷ gs) [] h = refl
+      relaid-again (g ∷ gs) (s ∷ ss) h =
+          let n : ℕ = length (joined (g ∷ gs)) in
+          cases (before s)
+          (λ d. rw (stays s, d) (relaid-written n (s ∷ ss) (omega (arith, leb-true (reach gap (s ∷ ss) + 13) n (rw d at h)))))
+          (λ d. cases (hit s)
+          (λ e. rw (stays s, d, keeps s, e) (ap (λ (k : ℕ). writtenSpans gap k (map f (s ∷ ss))) (length-kept before g gs ss (rw d at h))))
+          (λ e. rw (stays s, d, keeps s, e) (ap (λ (ks : List (List ℕ)). g ∷ ks) (relaid-again gs ss (rw d at h)))))
+
+      -- The second writing has room exactly when that one has.
+      room-again : (gs : List (List ℕ)) (ss : List Sector) → room before gs ss ≡ true → anyHit hit ss ≡ true
+          → room hit (relaid before gs ss) (map f ss) ≡ room (λ s. before s || hit s) gs (map f ss)
+      unfolding relaid room anyHit
+      room-again [] ss h p = refl
+      room-again (g ∷ gs) [] h p = refl
+      room-again (g ∷ gs) (s ∷ ss) h p =
+          let n : ℕ = length (joined (g ∷ gs)) in
+          cases (before s)
+          (λ d. rw (stays s, d) (room-written n s ss (omega (arith, leb-true (reach gap (s ∷ ss) + 13) n (rw d at h))) p))
+          (λ d. cases (hit s)
+          (λ e. rw (stays s, d, keeps s, e) (ap (leb (reach gap (map f (s ∷ ss)) + 13)) (length-kept before g gs ss (rw d at h))))
+          (λ e. rw (stays s, d, keeps s, e) (room-again gs ss (rw d at h) (rw e at p))))
+
+  module _ (a b : Correction) (gs : List (List ℕ)) (ss : List Sector) (h : room (named a) gs (map (replacedBy a) ss) ≡ true) where
     -- Two corrections, one after the other, write afresh from the left one of their sectors.
-    pub relaid-relaid : (gs : List (List ℕ)) (ss : List Sector) → room (named a) gs (map (replacedBy a) ss) ≡ true
-        → relaid (named b) (relaid (named a) gs (map (replacedBy a) ss)) (map (replacedBy b) (map (replacedBy a) ss))
+    pub relaid-relaid : relaid (named b) (relaid (named a) gs (map (replacedBy a) ss)) (map (replacedBy b) (map (replacedBy a) ss))
         ≡ relaid (namedEither a b) gs (map (replacedBy b) (map (replacedBy a) ss))
-    unfolding relaid room namedEither
-    relaid-relaid [] ss h = refl
-    relaid-relaid (g ∷ gs) [] h = refl
-    relaid-relaid (g ∷ gs) (s ∷ ss) h =
-        let r : Sector = replacedBy a s in
-        let ds : List Sector = map (replacedBy a) ss in
-        let n : ℕ = length (joined (g ∷ gs)) in
-        let h₁ = rw (replaced-named a a s) at h in
-        cases (named a s)
-        (λ d. rw (replaced-named b a r, replaced-named a a s, d)
-        (relaid-written b n (r ∷ ds) (omega (arith, leb-true (reach gap (r ∷ ds) + 13) n (rw d at h₁)))))
-        (λ d. cases (named b s)
-        (λ e. rw (replaced-named b a r, replaced-named a a s, d, replaced-named b b r, replaced-named a b s, e)
-        (ap (λ (k : ℕ). writtenSpans gap k (map (replacedBy b) (r ∷ ds))) (length-kept (named a) g gs ds (rw d at h₁))))
-        (λ e. rw (replaced-named b a r, replaced-named a a s, d, replaced-named b b r, replaced-named a b s, e)
-        (ap (λ (ks : List (List ℕ)). g ∷ ks) (relaid-relaid gs ss (rw d at h₁)))))
+    unfolding namedEither
+    relaid-relaid = relaid-again (named b) (replacedBy b) (replaced-named b b) (replaced-other b) (named a) (replaced-named b a) gs (map (replacedBy a) ss) h
 
     -- The second of them has room exactly when that has.
-    pub room-relaid : (gs : List (List ℕ)) (ss : List Sector) → room (named a) gs (map (replacedBy a) ss) ≡ true → anyHit (named b) ss ≡ true
+    pub room-relaid : anyHit (named b) ss ≡ true
         → room (named b) (relaid (named a) gs (map (replacedBy a) ss)) (map (replacedBy b) (map (replacedBy a) ss))
         ≡ room (namedEither a b) gs (map (replacedBy b) (map (replacedBy a) ss))
-    unfolding relaid room namedEither anyHit
-    room-relaid [] ss h p = refl
-    room-relaid (g ∷ gs) [] h p = refl
-    room-relaid (g ∷ gs) (s ∷ ss) h p =
-        let r : Sector = replacedBy a s in
-        let ds : List Sector = map (replacedBy a) ss in
-        let n : ℕ = length (joined (g ∷ gs)) in
-        let h₁ = rw (replaced-named a a s) at h in
-        cases (named a s)
-        (λ d. rw (replaced-named b a r, replaced-named a a s, d)
-        (room-written b n r ds (omega (arith, leb-true (reach gap (r ∷ ds) + 13) n (rw d at h₁))) (any-replaced a b (s ∷ ss) ∙ p)))
-        (λ d. cases (named b s)
-        (λ e. rw (replaced-named b a r, replaced-named a a s, d, replaced-named b b r, replaced-named a b s, e)
-        (ap (leb (reach gap (map (replacedBy b) (r ∷ ds)) + 13)) (length-kept (named a) g gs ds (rw d at h₁))))
-        (λ e. rw (replaced-named b a r, replaced-named a a s, d, replaced-named b b r, replaced-named a b s, e) (room-relaid gs ss (rw d at h₁) (rw e at p))))
+    unfolding namedEither
+    room-relaid p =
+        room-again (named b) (replacedBy b) (replaced-named b b) (replaced-other b) (named a) (replaced-named b a) gs (map (replacedBy a) ss) h (any-replaced a b ss ∙ p)

@@ -1,5 +1,5 @@
 -- What a correction does to single sectors and to lists of them.
-use mathlib.Core.Path.{_≡_, refl, sym, ap₂, _∙_}
+use mathlib.Core.Path.{_≡_, refl, sym, ap, ap₂, _∙_}
 use Prim.Native.Nat.{ℕ, suc}
 use mathlib.Core.Bool.{Bool, true, false, _||_}
 use mathlib.Core.List.{List, [], _∷_, map}
@@ -39,10 +39,14 @@ pub replaced-numbers : (a : Correction) (ss : List Sector) → map (λ s. s .num
 replaced-numbers a [] = refl
 replaced-numbers a (s ∷ ss) = ap₂ (λ (n : ℕ) (ns : List ℕ). n ∷ ns) (replaced-number a s) (replaced-numbers a ss)
 
+-- A correction names a sector by its number alone.
+pub named-number : (a : Correction) (s r : Sector) → s .number ≡ r .number → named a s ≡ named a r
+unfolding named
+named-number a s r e = ap (λ (n : ℕ). eqb n (a .number)) e
+
 -- What a correction names does not change by a correction.
 pub replaced-named : (a b : Correction) (s : Sector) → named b (replacedBy a s) ≡ named b s
-unfolding named
-replaced-named a b s = rw (replaced-number a s)
+replaced-named a b s = named-number b (replacedBy a s) s (replaced-number a s)
 
 -- A correction leaves a sector that it does not name.
 pub replaced-other : (a : Correction) (s : Sector) → named a s ≡ false → replacedBy a s ≡ s
@@ -70,7 +74,8 @@ replaced-stand a b c h i x (s ∷ ss) v = (
   rw (replaced-settle a x s) (replaced-stand a b c h (suc i) (settle x s) ss (v .1)),
 )
 
-named-apart : (a b : Correction) → (a .number ≡ b .number → ⊥) → (s : Sector) → named a s ≡ true → named b s ≡ false
+-- Of two corrections of different number only one names a sector.
+pub named-apart : (a b : Correction) → (a .number ≡ b .number → ⊥) → (s : Sector) → named a s ≡ true → named b s ≡ false
 unfolding named
 named-apart a b ne s e = ne-eqb (s .number) (b .number) (λ q. ne (sym (eqb-true (s .number) (a .number) e) ∙ q))
 
