@@ -4,11 +4,7 @@ use mathlib.Core.Bool.{Bool, true, false, _&&_}
 use mathlib.Core.List.{List, [], _∷_, _++_}
 use lib.Dec.{ltb, eqb}
 use lib.Bits.{bitXor}
-
--- The first value where the test holds, and the second where it does not.
-abbrev pub pick {ℓ} : {X : Type ℓ} → Bool → X → X → X
-pick true a b = a
-pick false a b = b
+pub use Rattle.crc.specs.Pick.{pick}
 
 -- The k low binary digits of n, highest first.
 unfoldable pub digits : ℕ → ℕ → List ℕ

@@ -18,6 +18,7 @@ use Rattle.format.proofs.Field.{unmarked-block, length-closing}
 use Rattle.format.proofs.Standing.{FitsCount, info-unmarked}
 use Rattle.format.proofs.WrittenRest.{writtenRest, written-form, rest-unmarked, length-rest}
 use Rattle.format.proofs.ReadBack.{length-written}
+pub use Rattle.format.proofs.ReadBack.{length-written as sector-length}
 use Rattle.format.proofs.Pairs.{bytes-unmarked}
 pub use Rattle.format.proofs.WrittenHome.{head-length}
 use Rattle.encode.specs.Room.{addressOf, sectorSize, bothFit, sectorFits}
@@ -25,11 +26,6 @@ use Rattle.encode.specs.Bytes.{countBytes}
 use Rattle.encode.proofs.Room.{and-right, both-fit}
 use Rattle.encode.proofs.Openings.{length-opening}
 use Rattle.encode.proofs.Cells.{bytes-append, marks-append, marks-unmarked}
-
--- What a written sector takes.
-pub sector-length : (s : Sector) → length (writtenSector s) ≡ sectorSize (s .first) (length (s .keyBytes)) (length (s .dataBytes))
-unfolding sectorSize
-sector-length s = length-written s
 
 -- What a written count takes.
 pub count-length : (s : Sector) → length (countBytes s) ≡ openingLength (s .first) + 12
@@ -59,6 +55,7 @@ sector-bytes s f k d =
 -- Its marks, where it takes n bytes: those of the count's opening, and 0 behind it.
 pub sector-marks : (s : Sector) (n : ℕ) → n ≡ length (writtenSector s) → FitsCount s → unmarked (s .keyBytes) ≡ true → unmarked (s .dataBytes) ≡ true
     → marksOf (writtenSector s) ≡ marksOf (countOpening (s .first)) ++ replicate (n - openingLength (s .first)) 0
+unfolding sectorSize
 sector-marks s n q f k d =
     let z : length (writtenRest s []) ≡ n - openingLength (s .first) = omega (arith, length-rest s [], length-written s) in
     ap marksOf (sector-split s) ∙ marks-append (countOpening (s .first)) (writtenRest s [])

@@ -1,13 +1,13 @@
 -- What the writers take, and whether it fits in parts of l bytes and k marks.
-use Prim.Native.Nat.{ℕ, _+_}
+use Prim.Native.Nat.{ℕ}
 use mathlib.Core.Bool.{Bool, _&&_}
 use mathlib.Core.List.{List}
 use lib.ListN.{length}
 use lib.Dec.{leb}
 use Rattle.format.specs.Address.{Address}
-use Rattle.format.specs.Block.{keySize, dataSize}
-use Rattle.format.specs.Sector.{Sector, openingLength}
+use Rattle.format.specs.Sector.{Sector}
 use Rattle.format.specs.Written.{writtenSector}
+unfoldable pub use Rattle.format.specs.Written.{sectorSize}
 use Rattle.format.specs.Blank.{contentRight}
 
 -- C and H as an address.
@@ -18,10 +18,6 @@ addressOf cylinder head = record { cylinder = cylinder; head = head }
 abbrev pub sectorFrom : Bool → ℕ → ℕ → ℕ → ℕ → List ℕ → List ℕ → Sector
 sectorFrom first flag cylinder head s key body =
     record { first = first; flag = flag; address = addressOf cylinder head; number = s; keyBytes = key; dataBytes = body }
-
--- What a sector with a key of kl bytes and data of dl bytes takes without the gap after it.
-unfoldable pub sectorSize : Bool → ℕ → ℕ → ℕ
-sectorSize first kl dl = openingLength first + 23 + keySize kl + dataSize dl
 
 -- A list of n cells fits in both parts.
 abbrev pub bothFit : ℕ → ℕ → ℕ → Bool

@@ -17,21 +17,21 @@ use Rattle.format.specs.Block.{leastGap}
 use Rattle.format.specs.Span.{joined}
 use Rattle.format.specs.Sector.{Sector}
 use Rattle.format.specs.Accept.{Placed, placedFrom, among, Accepted, acceptCells}
-use Rattle.format.specs.Written.{gapAfter, writtenBehind}
+use Rattle.format.specs.Written.{writtenSector, gapAfter, writtenBehind}
 use Rattle.format.specs.Blank.{contentRight}
 use Rattle.format.specs.Add.{endOf, fromNumber, judgeAbsent, addedFlag, addedSector, addedTo}
 use Rattle.format.specs.Correct.{sectorsOf}
 use Rattle.format.proofs.Shape.{Stands, AllStand}
 use Rattle.format.proofs.Judged.{good-inj, require-good}
 use Rattle.format.proofs.HomeLocal.{home-local}
-use Rattle.format.proofs.ReadBack.{read-written, written-later, written-clean}
+use Rattle.format.proofs.ReadBack.{length-written, read-written, written-later, written-clean}
 use Rattle.format.proofs.ReadsAs.{Reads, length-reads, reads-stand, sectors-placed}
 use Rattle.format.proofs.AcceptedSpans.{Track, acceptedOf, track-accepted}
 use Rattle.format.proofs.TakenApart.{reads-reach}
 use Rattle.format.proofs.Numbers.{Fresh, Absent, judged-fresh, fresh-placed, fresh-append, judged-absent}
 use Rattle.format.proofs.SharedAddress.{AllName, all-name}
 use Rattle.format.proofs.GrownSpans.{grown, none-grown, reads-grown, shape-grown, clean-grown, placedAt, lastPlaced, last-name, length-placed, end-in, joined-grown}
-use Rattle.format.proofs.OneBehind.{sectorSize, gapToIndex, spanToIndex, behind-one, gap-behind, length-behind}
+use Rattle.format.proofs.OneBehind.{gapToIndex, spanToIndex, behind-one, gap-behind, length-behind}
 use Rattle.format.proofs.NewSector.{newSector, lastEnd, added-stands, added-to-is, addNeed, length-kept}
 
 -- The track e is the accepted track c with one more sector, n.
@@ -126,7 +126,7 @@ module _ (gap : ℕ → ℕ → ℕ) (least : (k d : ℕ) → 21 ≤ gap k d) (x
       (subst (Fresh []) old-sectors (judged-fresh [] (a .sectors) (t .numbers))) refl
       (subst (Absent s) old-sectors (judged-absent s (a .sectors) absent))
 
-  track-now : Stands h (suc (length others)) (settled (o .address)) new → judgeAbsent (fromNumber s (a .sectors)) ≡ good tt → length kept + sectorSize new + 13 ≤ length c
+  track-now : Stands h (suc (length others)) (settled (o .address)) new → judgeAbsent (fromNumber s (a .sectors)) ≡ good tt → length kept + length (writtenSector new) + 13 ≤ length c
       → Track xs h spansNow ((o ∷ os) ++ new ∷ [])
   unfolding leastGap gapAfter
   track-now v absent room =
@@ -150,9 +150,9 @@ module _ (gap : ℕ → ℕ → ℕ) (least : (k d : ℕ) → 21 ≤ gap k d) (x
         numbers = fresh-placed [] p spansNow ((o ∷ os) ++ new ∷ []) (length-reads h 0 unsettled p spansNow ((o ∷ os) ++ new ∷ []) reads) (fresh-now absent);
       }
 
-  need-now : length kept + sectorSize new + 13 ≡ addNeed gap (a .sectors) key body
+  need-now : length kept + length (writtenSector new) + 13 ≡ addNeed gap (a .sectors) key body
   unfolding newSector placedFrom
-  need-now = omega (arith, length-kept gap c (a .sectors) end-inside)
+  need-now = omega (arith, length-kept gap c (a .sectors) end-inside, length-written new)
 
   -- What Add gives on the track: 15, or the head and the grown spans.
   added-now : addedTo gap c h 0 b7 s key body (a .sectors) ≡ require (leb (addNeed gap (a .sectors) key body) (length c)) roomMissing (good (xs ++ joined spansNow))

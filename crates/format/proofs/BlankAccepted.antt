@@ -13,21 +13,21 @@ use Rattle.format.specs.Lent.{lengthRight, lentForWriting, bytesOf, mark
 use Rattle.format.specs.Address.{Address, addressInRange, addressRight}
 use Rattle.format.specs.Home.{Home}
 use Rattle.format.specs.Count.{unsettled, countAddressRight}
-use Rattle.format.specs.Block.{keySize, dataSize, leastGap}
+use Rattle.format.specs.Block.{leastGap}
 use Rattle.format.specs.Span.{joined}
 use Rattle.format.specs.Sector.{Sector}
 use Rattle.format.specs.Accept.{placedFrom, among, judgeNumbers, Accepted, accept}
-use Rattle.format.specs.Written.{gapOne, writtenSector, writtenBehind, Pair, asPair}
+use Rattle.format.specs.Written.{gapOne, writtenSector, sectorSize, writtenBehind, Pair, asPair}
 use Rattle.format.specs.Blank.{contentRight, namedBy, blankRight, writtenHead, blankSector, blank}
 use Rattle.format.specs.Correct.{sectorsOf}
 use Rattle.format.proofs.Shape.{cleanSpans, Stands}
 use Rattle.format.proofs.Judged.{and-both, and-make, good-inj, require-good}
-use Rattle.format.proofs.ReadBack.{read-written, written-first, written-clean}
+use Rattle.format.proofs.ReadBack.{length-written, read-written, written-first, written-clean}
 use Rattle.format.proofs.Pairs.{length-bytes, length-marks, accept-pair, pairOf}
 use Rattle.format.proofs.AcceptedSpans.{Track, acceptedOf, track-accepted}
 use Rattle.format.proofs.WrittenHome.{range-bounds, head-length, head-unmarked, written-home}
 use Rattle.format.proofs.CountRight.{right-in-range, count-unmarked, first-flag}
-use Rattle.format.proofs.OneBehind.{sectorSize, gapToIndex, spanToIndex, behind-one, gap-behind, length-behind}
+use Rattle.format.proofs.OneBehind.{gapToIndex, spanToIndex, behind-one, gap-behind, length-behind}
 
 -- Home as Blank writes it.
 abbrev pub blankHome : ℕ → Address → Home
@@ -35,7 +35,7 @@ blankHome flag own = record { place = 30; flag = flag; address = own }
 
 -- The place at which the block of sector 0 ends, and 13 bytes more.
 abbrev pub blankNeed : List ℕ → List ℕ → ℕ
-blankNeed key body = 55 + 6 + 23 + keySize (length key) + dataSize (length body) + 13
+blankNeed key body = 55 + sectorSize true (length key) (length body) + 13
 
 -- What the wanted fields within the rule say.
 pub record Wanted (own : Address) (flag : ℕ) (named : Address) (key body : List ℕ) : Type 0 where
@@ -95,9 +95,9 @@ module _ (own : Address) (flag : ℕ) (named : Address) (s : ℕ) (key body : Li
   abbrev whole : ℕ → List ℕ
   whole l = writtenHead flag own ++ joined (spanToIndex (writtenHead flag own) l sector ∷ [])
 
-  need-is : length (writtenHead flag own) + sectorSize sector + 13 ≡ blankNeed key body
+  need-is : length (writtenHead flag own) + length (writtenSector sector) + 13 ≡ blankNeed key body
   unfolding blankSector
-  need-is = omega (arith, head-length flag own)
+  need-is = omega (arith, head-length flag own, length-written sector)
 
   behind-need : (l : ℕ) → writtenBehind gapOne (writtenHead flag own) l (sector ∷ []) ≡ require (leb (blankNeed key body) l) roomMissing (good (whole l))
   behind-need l =
@@ -157,7 +157,7 @@ module _ (l k : ℕ) (own : Address) (flag : ℕ) (partner : Address) (s : ℕ) 
       let head : List ℕ = writtenHead flag own in
       let new : Sector = sector own flag named s key body in
       let w = wanted own flag partner key body (g .1) in
-      let room : length head + sectorSize new + 13 ≤ l = omega (arith, need-is own flag named s key body, g .2) in
+      let room : length head + length (writtenSector new) + 13 ≤ l = omega (arith, need-is own flag named s key body, g .2) in
       let m : ℕ = gapToIndex head l new in
       let b = blank-track own flag named s key body m w (blank-stands own flag named s key body w n uk ub) (gap-behind head l new room) in
       let len : length c ≡ l = length-behind head l new room in

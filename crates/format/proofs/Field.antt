@@ -8,7 +8,8 @@ use lib.Seq.{take-at, drop-at}
 use lib.Dec.{eqb, eqb·suc-zero}
 use native.Mathlib.Omega.{arith}
 use borrow.Author.Tests.{lt-ltb}
-use Rattle.crc.specs.Check.{checkOf, checkBytes, pick}
+use Rattle.crc.specs.Pick.{pick}
+use Rattle.crc.specs.Check.{checkOf, checkBytes}
 use Rattle.crc.proofs.Check.{check-lt}
 use Rattle.format.specs.Lent.{unmarked}
 use Rattle.format.specs.Opening.{startsWith, plainOpening, closing, closedAfter}

@@ -13,11 +13,10 @@ use Rattle.format.specs.Lent.{unmarked}
 use Rattle.format.specs.Address.{Address}
 use Rattle.format.specs.Home.{Home}
 use Rattle.format.specs.Count.{unsettled, settled, countAddressRight}
-use Rattle.format.specs.Block.{keySize, dataSize}
 use Rattle.format.specs.Span.{joined}
 use Rattle.format.specs.Sector.{Sector}
 use Rattle.format.specs.Accept.{Placed, Accepted}
-use Rattle.format.specs.Written.{gapAfter, writtenBehind}
+use Rattle.format.specs.Written.{writtenSector, sectorSize, gapAfter, writtenBehind}
 use Rattle.format.specs.Blank.{contentRight}
 use Rattle.format.specs.Add.{endOf, addedFlag, addedSector, addedTo}
 use Rattle.format.proofs.Shape.{Stands}
@@ -25,7 +24,8 @@ use Rattle.format.proofs.Standing.{info-fits}
 use Rattle.format.proofs.CountRight.{count-unmarked, added-flag, added-flag-small}
 use Rattle.format.proofs.SharedAddress.{sharedAddress, same-self}
 use Rattle.format.proofs.GrownSpans.{lastOf}
-use Rattle.format.proofs.OneBehind.{sectorSize, spanToIndex, behind-one}
+use Rattle.format.proofs.ReadBack.{length-written}
+use Rattle.format.proofs.OneBehind.{spanToIndex, behind-one}
 
 -- The place at which the block of the last sector ends.
 abbrev pub lastEnd : List Placed → ℕ
@@ -71,7 +71,7 @@ module _ (gap : ℕ → ℕ → ℕ) where
 
   -- Where the block of the new sector would end, and 13 bytes more.
   abbrev pub addNeed : List Placed → List ℕ → List ℕ → ℕ
-  addNeed xs key body = lastEnd xs + lastGap xs + 8 + 23 + keySize (length key) + dataSize (length body) + 13
+  addNeed xs key body = lastEnd xs + lastGap xs + sectorSize false (length key) (length body) + 13
 
   -- What Add writes on sectors x and xs, which start in position i.
   pub added-to-is : (c : List ℕ) (h : Home) (i b7 s : ℕ) (key body : List ℕ) (x : Placed) (xs : List Placed) (n : ℕ) → n ≡ suc (i + length xs)
@@ -100,6 +100,6 @@ module _ (gap : ℕ → ℕ → ℕ) where
   added-room c h i b7 s key body x xs l =
       let n : Sector = addedSector h (suc (i + length xs)) (lastOf x xs) b7 s key body in
       let k : List ℕ = keptCells c (x ∷ xs) in
-      let e : length k + sectorSize n + 13 ≡ addNeed (x ∷ xs) key body = omega (arith, length-kept c (x ∷ xs) l) in
+      let e : length k + length (writtenSector n) + 13 ≡ addNeed (x ∷ xs) key body = omega (arith, length-kept c (x ∷ xs) l, length-written n) in
       added-to-is c h i b7 s key body x xs (suc (i + length xs)) refl ∙ behind-one k (length c) n gap
       ∙ ap (λ (z : ℕ). require (leb z (length c)) roomMissing (good (k ++ joined (spanToIndex k (length c) n ∷ [])))) e

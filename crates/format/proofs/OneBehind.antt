@@ -7,16 +7,11 @@ use lib.ListN.{length, replicate, length-append}
 use lib.Dec.{leb}
 use Rattle.format.specs.Answer.{roomMissing}
 use Rattle.format.specs.Judged.{good, require}
-use Rattle.format.specs.Block.{keySize, dataSize, leastGap}
+use Rattle.format.specs.Block.{leastGap}
 use Rattle.format.specs.Span.{joined}
-use Rattle.format.specs.Sector.{Sector, openingLength}
+use Rattle.format.specs.Sector.{Sector}
 use Rattle.format.specs.Written.{writtenSector, reach, writtenSpans, writtenBehind}
-use Rattle.format.proofs.ReadBack.{length-written}
 use Rattle.format.proofs.WrittenSpans.{length-written-span}
-
--- What a sector takes from its opening to the end of its block.
-abbrev pub sectorSize : Sector → ℕ
-sectorSize s = openingLength (s .first) + 23 + keySize (length (s .keyBytes)) + dataSize (length (s .dataBytes))
 
 module _ (kept : List ℕ) (l : ℕ) (s : Sector) where
   -- The gap from its block to index of a track of l cells.
@@ -29,17 +24,17 @@ module _ (kept : List ℕ) (l : ℕ) (s : Sector) where
 
   -- There is room exactly where the block ends no later than l - 13.
   pub behind-one : (gap : ℕ → ℕ → ℕ)
-      → writtenBehind gap kept l (s ∷ []) ≡ require (leb (length kept + sectorSize s + 13) l) roomMissing (good (kept ++ joined (spanToIndex ∷ [])))
+      → writtenBehind gap kept l (s ∷ []) ≡ require (leb (length kept + length (writtenSector s) + 13) l) roomMissing (good (kept ++ joined (spanToIndex ∷ [])))
   unfolding writtenBehind reach leastGap writtenSpans
   behind-one gap =
-      let e : length kept + (length (writtenSector s) + 0) + 13 ≡ length kept + sectorSize s + 13 = omega (arith, length-written s) in
+      let e : length kept + (length (writtenSector s) + 0) + 13 ≡ length kept + length (writtenSector s) + 13 = omega arith in
       ap (λ (z : ℕ). require (leb z l) roomMissing (good (kept ++ joined (spanToIndex ∷ [])))) e
 
   -- Where there is room the gap to index is at least the least one.
-  pub gap-behind : length kept + sectorSize s + 13 ≤ l → 13 ≤ gapToIndex
-  gap-behind h = omega (arith, length-written s)
+  pub gap-behind : length kept + length (writtenSector s) + 13 ≤ l → 13 ≤ gapToIndex
+  gap-behind h = omega arith
 
   -- The track is as long as it shall be.
-  pub length-behind : length kept + sectorSize s + 13 ≤ l → length (kept ++ joined (spanToIndex ∷ [])) ≡ l
+  pub length-behind : length kept + length (writtenSector s) + 13 ≤ l → length (kept ++ joined (spanToIndex ∷ [])) ≡ l
   length-behind h =
-      omega (arith, length-written s, length-append kept (spanToIndex ++ []), length-append spanToIndex [], length-written-span s gapToIndex)
+      omega (arith, length-append kept (spanToIndex ++ []), length-append spanToIndex [], length-written-span s gapToIndex)

@@ -1,6 +1,6 @@
 -- What is written for a sector reads back as that sector, and what reads as a sector can be written.
 use mathlib.Core.Path.{_≡_, refl, sym, ap, _∙_, subst}
-use Prim.Native.Nat.{ℕ, zero, suc, _+_, _≤_}
+use Prim.Native.Nat.{ℕ, zero, suc, _≤_}
 use mathlib.Core.Bool.{Bool, true, false}
 use mathlib.Core.List.{List, [], _∷_, _++_, append-nil}
 use lib.ListN.{length, replicate, length-append, length-replicate}
@@ -12,10 +12,10 @@ use Rattle.format.specs.Lent.{unmarked}
 use Rattle.format.specs.Opening.{startsWith, plainOpening, opens}
 use Rattle.format.specs.Home.{Home}
 use Rattle.format.specs.Count.{Settled, unsettled, settled, countFieldsRight}
-use Rattle.format.specs.Block.{keySize, dataSize, leastGap}
+use Rattle.format.specs.Block.{leastGap}
 use Rattle.format.specs.Span.{laterSpans}
 use Rattle.format.specs.Sector.{Sector, openingLength, isFirst, sectorIn, readSpan, settle}
-use Rattle.format.specs.Written.{countOpening, writtenSector}
+use Rattle.format.specs.Written.{countOpening, writtenSector, sectorSize}
 use Rattle.format.specs.Blank.{contentRight}
 use Rattle.format.specs.Correct.{withContent}
 use Rattle.format.proofs.Shape.{cleanSpan, Stands}
@@ -33,7 +33,8 @@ length-opening true = refl
 length-opening false = refl
 
 -- The length of what is written for a sector.
-pub length-written : (s : Sector) → length (writtenSector s) ≡ openingLength (s .first) + 23 + keySize (length (s .keyBytes)) + dataSize (length (s .dataBytes))
+pub length-written : (s : Sector) → length (writtenSector s) ≡ sectorSize (s .first) (length (s .keyBytes)) (length (s .dataBytes))
+unfolding sectorSize
 length-written s =
     let e : length (writtenSector s) ≡ length (countOpening (s .first) ++ writtenRest s []) = ap length (sym (append-nil (writtenSector s)) ∙ written-form s []) in
     omega (arith, e, length-append (countOpening (s .first)) (writtenRest s []), length-opening (s .first), length-rest s [])

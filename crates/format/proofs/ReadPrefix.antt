@@ -8,7 +8,7 @@ use lib.ListN.{length, drop, getD, length-append, length-drop}
 use lib.Seq.{drop-append-le}
 use lib.Dec.{eqb}
 use borrow.Author.Tests.{le-leb}
-use Rattle.crc.specs.Check.{pick}
+use Rattle.crc.specs.Pick.{pick}
 use Rattle.format.specs.Judged.{good}
 use Rattle.format.specs.Opening.{startsWith, plainOpening}
 use Rattle.format.specs.Address.{addressIn}

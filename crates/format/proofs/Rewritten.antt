@@ -8,7 +8,7 @@ use lib.ListN.{length, take, length-append}
 use lib.Seq.{take-at, length-take-le}
 use lib.Dec.{leb, eqb}
 use borrow.Author.Tests.{leb-true, leb-false, le-leb, lt-leb, eqb-true, eq-eqb, not-true}
-use Rattle.crc.specs.Check.{pick}
+use Rattle.crc.specs.Pick.{pick}
 use Rattle.format.specs.Answer.{sectorRepeated, roomMissing}
 use Rattle.format.specs.Judged.{Judged, good, require}
 use Rattle.format.specs.Block.{leastGap}

@@ -8,7 +8,7 @@ use mathlib.Core.List.{List, [], _∷_, map}
 use lib.ListN.{length, drop, getD, length-append, length-drop, length-map}
 use lib.Dec.{leb, eqb}
 use borrow.Author.Tests.{eqb-true, eq-eqb, leb-true, not-true}
-use Rattle.crc.specs.Check.{pick}
+use Rattle.crc.specs.Pick.{pick}
 use Rattle.format.specs.Answer.{sectorRepeated}
 use Rattle.format.specs.Judged.{good}
 use Rattle.format.specs.Lent.{lengthRight, cells}

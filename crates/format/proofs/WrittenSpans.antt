@@ -5,19 +5,20 @@ use native.Mathlib.Omega.{arith}
 use mathlib.Core.Bool.{true, false}
 use mathlib.Core.List.{List, [], _∷_, _++_}
 use lib.ListN.{length, replicate, length-append, length-replicate}
-use Rattle.crc.specs.Check.{pick}
+use Rattle.crc.specs.Pick.{pick}
 use Rattle.format.specs.Home.{Home}
 use Rattle.format.specs.Count.{Settled}
 use Rattle.format.specs.Block.{leastGap}
 use Rattle.format.specs.Span.{joined, none}
 use Rattle.format.specs.Sector.{Sector, settle}
-use Rattle.format.specs.Written.{writtenSector, gapAfter, reach, writtenSpans}
+use Rattle.format.specs.Written.{writtenSector, sectorSize, gapAfter, reach, writtenSpans}
 use Rattle.format.proofs.Shape.{Shape, cleanSpans, FirstReaches, AllStand}
 use Rattle.format.proofs.ReadBack.{length-written, read-written, written-first, written-later, written-clean}
 use Rattle.format.proofs.ReadsAs.{Reads}
 
 -- A written sector has room for its count.
 pub written-reaches : (s : Sector) → 18 ≤ length (writtenSector s)
+unfolding sectorSize
 written-reaches s = omega (arith, length-written s)
 
 -- The length of a span is that of its sector and of what follows it.

@@ -4,7 +4,7 @@ use mathlib.Core.Bool.{Bool, true, false, _&&_}
 use mathlib.Core.List.{List, [], _∷_, _++_}
 use lib.ListN.{length, replicate}
 use lib.Dec.{leb}
-use Rattle.crc.specs.Check.{pick}
+use Rattle.crc.specs.Pick.{pick}
 use Rattle.format.specs.Answer.{lentWrong, wantedWrong}
 use Rattle.format.specs.Judged.{Judged, good, refused, then, require}
 use Rattle.format.specs.Lent.{lentForWriting}

@@ -4,7 +4,7 @@ use mathlib.Core.Bool.{Bool, true, false}
 use mathlib.Core.List.{List, [], _∷_, _++_}
 use lib.ListN.{length, take, drop}
 use lib.Dec.{ltb, eqb}
-use Rattle.crc.specs.Check.{pick}
+use Rattle.crc.specs.Pick.{pick}
 use Rattle.format.specs.Opening.{opens}
 
 -- How many cells stand before the first marked one.

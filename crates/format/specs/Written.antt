@@ -4,15 +4,15 @@ use mathlib.Core.Bool.{Bool, true, false, _&&_}
 use mathlib.Core.List.{List, [], _∷_, _++_}
 use lib.ListN.{length, replicate}
 use lib.Dec.{leb, eqb}
-use Rattle.crc.specs.Check.{pick}
+use Rattle.crc.specs.Pick.{pick}
 use Rattle.format.specs.Answer.{roomMissing}
 use Rattle.format.specs.Judged.{Judged, good, refused, then, require}
 use Rattle.format.specs.Lent.{bytesOf, marksOf}
 use Rattle.format.specs.Opening.{plainOpening, markedOpening, closing}
 use Rattle.format.specs.Address.{addressBytes}
-use Rattle.format.specs.Block.{leastGap}
+use Rattle.format.specs.Block.{keyOffset, keySize, dataSize, leastGap}
 use Rattle.format.specs.Span.{joined, none}
-use Rattle.format.specs.Sector.{Sector}
+use Rattle.format.specs.Sector.{Sector, openingLength}
 
 -- The gap after home.
 abbrev pub homeGap : List ℕ
@@ -53,6 +53,10 @@ unfoldable pub writtenSector : Sector → List ℕ
 writtenSector s =
     countOpening (s .first)
     ++ (countInfo s ++ (closing (countInfo s) ++ (writtenKey (s .keyBytes) ++ (innerGap ++ writtenData (s .dataBytes)))))
+
+-- What a sector with a key of kl bytes and data of dl bytes takes without the gap after it.
+unfoldable pub sectorSize : Bool → ℕ → ℕ → ℕ
+sectorSize first kl dl = openingLength first + keyOffset + keySize kl + dataSize dl
 
 -- The new track's bytes and marks.
 pub record Pair : Type 0 where

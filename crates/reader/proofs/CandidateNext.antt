@@ -8,7 +8,7 @@ use mathlib.Core.List.{List, [], _∷_, _++_}
 use lib.ListN.{length, getD, take, drop, length-drop, drop-of-length-le}
 use lib.Seq.{drop-cons, drop-drop}
 use lib.Dec.{eqb}
-use Rattle.crc.specs.Check.{pick}
+use Rattle.crc.specs.Pick.{pick}
 use Rattle.format.specs.Judged.{Judged}
 use Rattle.format.specs.Count.{countNumber}
 use Rattle.format.specs.Candidate.{Candidate, firstOpensAt, candidateAt, standsAt, candidatesFrom}

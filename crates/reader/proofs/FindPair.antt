@@ -8,7 +8,7 @@ use lib.ListN.{getD, drop}
 use lib.Seq.{getD-drop}
 use lib.Dec.{eqb}
 use borrow.Author.Tests.{eq-eqb, ne-eqb}
-use Rattle.crc.specs.Check.{pick}
+use Rattle.crc.specs.Pick.{pick}
 use Rattle.format.specs.Answer.{Answer, lentWrong, firstCountMissing, pairWrong}
 use Rattle.format.specs.Judged.{Judged, good, refused, then, answerOf}
 use Rattle.format.specs.Lent.{lentForReading, cells}

@@ -8,7 +8,7 @@ use lib.ListN.{length, take, drop, length-drop}
 use lib.Seq.{drop-drop, take-append-le, drop-append-le}
 use lib.Dec.{eqb}
 use borrow.Author.Tests.{le-leb, lt-leb, eq-eqb, ne-eqb}
-use Rattle.crc.specs.Check.{pick}
+use Rattle.crc.specs.Pick.{pick}
 use Rattle.format.specs.Lent.{cells}
 use Rattle.format.specs.Count.{countFlag, countNumber, keyLength, dataLength}
 use Rattle.format.specs.Block.{keyOffset, dataOffset, blockEnd}

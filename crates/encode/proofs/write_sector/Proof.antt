@@ -12,7 +12,8 @@ use Rattle.encode.specs.Room.{sectorFrom, sectorSize}
 use Rattle.encode.proofs.Laid.{laid-as}
 use Rattle.encode.proofs.Room.{first-short, second-short}
 use Rattle.format.proofs.Opening.{unmarked-below}
-use Rattle.encode.proofs.Sectors.{sector-length, sector-marks, key-long, data-long, sector-unfit, sector-fits}
+use Rattle.format.proofs.ReadBack.{length-written}
+use Rattle.encode.proofs.Sectors.{sector-marks, key-long, data-long, sector-unfit, sector-fits}
 use Rattle.encode.proofs.write_sector.Statement.{statement}
 use Rattle.encode.proofs.write_sector.Tie as tie
 
@@ -40,14 +41,14 @@ returns-3 c =
     let a = c .before .before .before .before .before .before .before .before .args in
     let S : Sector = sectorFrom (a .first) (a .flag) (a .cylinder) (a .head) (a .s) (a .key .now) (a .body .now) in
     let n = c .before .sector-size in
-    (sym (sector-unfit S (length (a .track .now)) (length (a .marks .now)) (n .result) (n .ensures ∙ sym (sector-length S)) (first-short _ _ _ (c .if3 .taken))), (refl, refl))
+    (sym (sector-unfit S (length (a .track .now)) (length (a .marks .now)) (n .result) (n .ensures ∙ sym (length-written S)) (first-short _ _ _ (c .if3 .taken))), (refl, refl))
 
 returns-4 : tie.Need-returns-4
 returns-4 c =
     let a = c .before .before .before .before .before .before .before .before .before .args in
     let S : Sector = sectorFrom (a .first) (a .flag) (a .cylinder) (a .head) (a .s) (a .key .now) (a .body .now) in
     let n = c .before .before .sector-size in
-    (sym (sector-unfit S (length (a .track .now)) (length (a .marks .now)) (n .result) (n .ensures ∙ sym (sector-length S)) (second-short _ _ _ (c .if4 .taken))), (refl, refl))
+    (sym (sector-unfit S (length (a .track .now)) (length (a .marks .now)) (n .result) (n .ensures ∙ sym (length-written S)) (second-short _ _ _ (c .if4 .taken))), (refl, refl))
 
 put-sector-requires : tie.Need-put-sector-requires
 put-sector-requires c κs = search needs
@@ -79,7 +80,7 @@ returns-5 c =
       key-fits = omega arith;
       data-fits = omega arith;
     } in
-    let q : n .result ≡ length (writtenSector S) = n .ensures ∙ sym (sector-length S) in (
+    let q : n .result ≡ length (writtenSector S) = n .ensures ∙ sym (length-written S) in (
       sym (sector-fits S (length (a .track .now)) (length (a .marks .now)) (n .result) q (omega arith) (omega arith) (omega arith) (omega arith)),
       (
         one .ensures,
