@@ -4,7 +4,7 @@ use mathlib.Core.Bool.{Bool, true, false, _&&_}
 use mathlib.Core.List.{List, [], _∷_, _++_}
 use lib.Dec.{ltb, eqb}
 use lib.Bits.{bitXor}
-pub use Rattle.crc.specs.Pick.{pick}
+use Rattle.crc.specs.Pick.{pick}
 
 -- The k low binary digits of n, highest first.
 unfoldable pub digits : ℕ → ℕ → List ℕ

@@ -8,7 +8,7 @@ use lib.ListN.{length, take}
 use lib.Seq.{length-take-le}
 use lib.Dec.{eqb}
 use borrow.Author.Tests.{le-leb, lt-leb}
-use Rattle.crc.specs.Check.{pick}
+use Rattle.crc.specs.Pick.{pick}
 use Rattle.format.specs.Answer.{sectorMissing, wantedWrong, roomMissing}
 use Rattle.format.specs.Judged.{good, refused}
 use Rattle.format.specs.Lent.{cells, bytesOf, marksOf, unmarked}

@@ -6,7 +6,7 @@ use mathlib.Core.Bool.{Bool, false}
 use mathlib.Core.List.{List, [], _∷_, _++_, append-assoc, append-nil}
 use lib.ListN.{length, take, drop, replicate, length-drop}
 use lib.Seq.{take-length, length-take-le}
-use Rattle.crc.specs.Check.{pick}
+use Rattle.crc.specs.Pick.{pick}
 use Rattle.format.specs.Lent.{cells, bytesOf, marksOf}
 use Rattle.format.specs.Span.{joined, none}
 use Rattle.format.specs.Sector.{Sector}

@@ -6,7 +6,7 @@ use mathlib.Core.Bool.{Bool, true}
 use mathlib.Core.List.{List}
 use lib.Dec.{leb}
 use borrow.Author.Tests.{leb-true, leb-false}
-use Rattle.crc.specs.Check.{pick}
+use Rattle.crc.specs.Pick.{pick}
 use Rattle.format.specs.Answer.{Answer, answerAt, done, roomMissing}
 use Rattle.format.specs.Judged.{Judged, good, refused, answerOf}
 use Rattle.format.specs.Lent.{bytesOf, marksOf}

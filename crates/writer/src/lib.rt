@@ -5,7 +5,7 @@ ghost use mathlib.Core.List.{List};
 ghost use Prim.Native.Nat.{_+_, _-_, _≤_};
 ghost use lib.ListN.{length, take};
 ghost use lib.Dec.{eqb, leb};
-ghost use Rattle.crc.specs.Check.{pick};
+ghost use Rattle.crc.specs.Pick.{pick};
 ghost use Rattle.format.specs.Answer.{answerAt, done, roomMissing};
 ghost use Rattle.format.specs.Lent.{bytesOf, marksOf};
 ghost use Rattle.format.specs.Block.{leastGap};
