@@ -68,10 +68,6 @@ module _ (gap : ℕ → ℕ → ℕ) (least : (k d : ℕ) → 21 ≤ gap k d) (x
   abbrev kept : List ℕ
   kept = take (endOf last) c ++ replicate (gapAfter gap (last .sector)) 0xFF
 
-  placed-is : a .sectors ≡ placedAt p g o ∷ others
-  unfolding placedFrom
-  placed-is = refl
-
   stand : AllStand h 0 unsettled (o ∷ os)
   stand = reads-stand h 0 unsettled p (g ∷ gs) (o ∷ os) (t .clean) (t .reads)
 
@@ -161,9 +157,6 @@ module _ (gap : ℕ → ℕ → ℕ) (least : (k d : ℕ) → 21 ≤ gap k d) (x
       ∙ ap (λ (z : ℕ). require (leb z (length c)) roomMissing (good (kept ++ joined (w ∷ [])))) need-now
       ∙ ap (λ (z : List ℕ). require (leb (addNeed gap (a .sectors) key body) (length c)) roomMissing (good z)) (sym whole-now)
 
-  length-now : addNeed gap (a .sectors) key body ≤ length c → length (xs ++ joined spansNow) ≡ length c
-  length-now l = ap length whole-now ∙ length-behind kept (length c) new (omega (arith, need-now))
-
   -- What stands up to the end of the old last block is copied.
   copied-now : take (endOf last) (xs ++ joined spansNow) ≡ take (endOf last) c
   copied-now =
@@ -180,13 +173,14 @@ module _ (gap : ℕ → ℕ → ℕ) (least : (k d : ℕ) → 21 ≤ gap k d) (x
       let need : ℕ = addNeed gap (a .sectors) key body in
       let q = require-good (leb need (length c)) roomMissing (good (xs ++ joined spansNow)) e (sym added-now ∙ f) in
       let room : need ≤ length c = leb-true need (length c) (q .0) in
-      let b : Track xs h spansNow ((o ∷ os) ++ new ∷ []) = track-now (new-stands uk ub n r hb) absent (omega (arith, need-now)) in
+      let enough : length kept + length (writtenSector new) + 13 ≤ length c = omega (arith, need-now) in
+      let b : Track xs h spansNow ((o ∷ os) ++ new ∷ []) = track-now (new-stands uk ub n r hb) absent enough in
       let now : List Sector = (o ∷ os) ++ new ∷ [] in
       subst (Outcome c a new) (good-inj (xs ++ joined spansNow) e (q .1)) (
         acceptedOf h spansNow now,
         track-accepted xs h spansNow now b,
         refl,
         sectors-placed p spansNow now (length-reads h 0 unsettled p spansNow now (b .reads)) ∙ ap (λ (z : List Sector). z ++ new ∷ []) (sym old-sectors),
-        length-now room,
+        ap length whole-now ∙ length-behind kept (length c) new enough,
         copied-now,
       )

@@ -106,10 +106,6 @@ module _ (gap : ℕ → ℕ → ℕ) (head : List ℕ) (h : Home) (gs : List (Li
       (from-relaid gap (named a) (replacedBy a) (replaced-named a a) head c start gs ss refl (t .head-length) same-length (r .present)
       ∙ rw (r .enough) (ap (λ (z : List ℕ). good z) (r .becomes))))
 
-  -- The sectors with a correction within the rule can stand.
-  new-stand : (a : Correction) → Bytes a → contentRight (a .key) (a .body) ≡ true → AllStand h 0 unsettled (map (replacedBy a) ss)
-  new-stand a b r = replaced-stand a b r h 0 unsettled ss (reads-stand h 0 unsettled start gs ss (t .clean) (t .reads))
-
   new-numbers : (a : Correction) (ks : List (List ℕ)) → length ks ≡ length ss → judgeNumbers [] (placedFrom start ks (map (replacedBy a) ss)) ≡ good tt
   new-numbers a ks l =
       same-numbers [] placed (placedFrom start ks (map (replacedBy a) ss))
@@ -123,7 +119,7 @@ module _ (gap : ℕ → ℕ → ℕ) (head : List ℕ) (h : Home) (gs : List (Li
   done-track least a d b r =
       let new : List Sector = map (replacedBy a) ss in
       let ks : List (List ℕ) = relaid gap (named a) gs new in
-      let v : AllStand h 0 unsettled new = new-stand a b (r .content) in
+      let v : AllStand h 0 unsettled new = replaced-stand a b (r .content) h 0 unsettled ss (reads-stand h 0 unsettled start gs ss (t .clean) (t .reads)) in
       let reads = reads-relaid gap least a h 0 unsettled start gs ss (t .reads) v (r .enough) in
       record {
         head-length = t .head-length;

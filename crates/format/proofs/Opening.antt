@@ -99,11 +99,6 @@ unfolding unmarked
 unmarked-below [] h = refl
 unmarked-below (x ∷ xs) h = unmarked-cons x xs (h 0) (unmarked-below xs (λ i. h (suc i)))
 
--- Nothing opens at index.
-pub opens-nil : opens [] ≡ false
-unfolding opens
-opens-nil = refl
-
 -- Where an opening stands, its cells and the rest are the list.
 pub opens-front : (c : List ℕ) → opens c ≡ true → c ≡ markedOpening ++ drop 8 c
 unfolding opens
@@ -113,16 +108,12 @@ opens-front c e = starts-with-front markedOpening c e
 pub length-opens : (c : List ℕ) → opens c ≡ true → 8 ≤ length c
 length-opens c e = omega (arith, ap length (opens-front c e))
 
--- The sixth cell of an opening is marked.
-pub opens-sixth : (c : List ℕ) → opens c ≡ true → getD c 5 0 ≡ 0x1FF
-opens-sixth c e = ap (λ (r : List ℕ). getD r 5 0) (opens-front c e)
-
 -- No marked opening stands where nothing is marked.
 pub opens-unmarked : (c : List ℕ) → unmarked c ≡ true → opens c ≡ false
 opens-unmarked c u = go (opens c) refl
   where
     go : (b : Bool) → opens c ≡ b → b ≡ false
-    go true e = absurd (omega (arith, opens-sixth c e, unmarked-at c 5 u))
+    go true e = absurd (let sixth : getD c 5 0 ≡ 0x1FF = ap (λ (r : List ℕ). getD r 5 0) (opens-front c e) in omega (arith, unmarked-at c 5 u))
     go false e = refl
 
 -- An opening does not lie across the start of another.

@@ -10,7 +10,7 @@ use Rattle.format.specs.Flag.{condition}
 use Rattle.format.specs.Home.{Home}
 use Rattle.format.specs.Accept.{Accepted, accept}
 use Rattle.format.specs.Find.{Wanted, Part, find}
-use Rattle.format.specs.PairFind.{Paired, judgeFirst, pairAgrees, findOnSecond, findByFlag, pairFind}
+use Rattle.format.specs.PairFind.{judgeFirst, pairAgrees, findOnSecond, findByFlag, pairFind}
 use Rattle.format.proofs.Judged.{cases, refused-good}
 use Rattle.format.proofs.FindSound.{HandedOut, find-hands-out}
 use Rattle.format.specs.Candidate.{Candidate}
@@ -21,9 +21,6 @@ pub data PairHandsOut (s : ℕ) (w : Wanted) (t m u v : List ℕ) (which : ℕ) 
   of-second : which ≡ 1 → (a : Accepted) → accept u v ≡ good a → find s w u v ≡ good part → (x : Candidate) → HandedOut s w u v part x → PairHandsOut s w t m u v which part
 
 module _ (s : ℕ) (w : Wanted) (t m u v : List ℕ) (part : Part) where
-  on-first : find s w t m ≡ good part → PairHandsOut s w t m u v 0 part
-  on-first e = let x = find-hands-out s w t m part e in of-first refl e (x .0) (x .1)
-
   on-second : (h : Home) (c : List ℕ) (j : Judged Accepted) → accept u v ≡ j → let r = findOnSecond s w h c u v j in r .outcome ≡ good part → PairHandsOut s w t m u v (r .which) part
   unfolding findOnSecond
   on-second h c (refused a) q e = refused-good a part e
@@ -40,7 +37,7 @@ module _ (s : ℕ) (w : Wanted) (t m u v : List ℕ) (part : Part) where
       (λ a. refused-good pairWrong part (rw a at e))
       (λ a. cases (eqb (condition (h .flag)) 2)
       (λ b. rw (a, b) (on-second h (cells t m) (accept u v) refl (rw (a, b) at e)))
-      (λ b. rw (a, b) (on-first (rw (a, b) at e))))
+      (λ b. rw (a, b) (let f : find s w t m ≡ good part = rw (a, b) at e in let x = find-hands-out s w t m part f in of-first refl f (x .0) (x .1))))
 
   -- It is Find's part of the first track, or of the second, which is then accepted.
   pub pair-hands-out : let r = pairFind s w t m u v in r .outcome ≡ good part → PairHandsOut s w t m u v (r .which) part
