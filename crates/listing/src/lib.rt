@@ -84,16 +84,16 @@ fn begin(track: &[u8], marks: &[u8], n: usize) -> Begun
     if n < 67 {
         return refused(format::lent_wrong());
     }
-    let judged = reader::judge(track, marks);
+    let judged = accepting::judge(track, marks);
     match judged {
-        reader::Judged::Accepted(h) => {
+        accepting::Judged::Accepted(h) => {
             let first = h.place + 25;
             let count = sector_count(track, marks, first);
             let answer = format::done();
             let listing = Listing { answer, count };
             Begun { listing, first }
         }
-        reader::Judged::Refused(a) => refused(a),
+        accepting::Judged::Refused(a) => refused(a),
     }
 }
 

@@ -24,7 +24,7 @@ use Rattle.format.specs.Find.{Wanted, find}
 use Rattle.format.specs.PairFind.{ofFirst, ofSecond, fromFirstCount, namedTrack, judgeFirstCount, judgeFirst, pairAgrees, findOnSecond, findByFlag, pairFind}
 use Rattle.format.proofs.Judged.{and-false}
 use Rattle.sector.proofs.Test.{eqb-comm}
-use Rattle.reader.proofs.AcceptAnswers.{count-zero}
+use Rattle.accepting.proofs.AcceptAnswers.{count-zero}
 
 -- An outcome whose answer is not 0 is that refusal.
 refused-is : {A : Type 0} (j : Judged A) (a : Answer) → a ≡ answerOf j → (a .number ≡ 0 → ⊥) → j ≡ refused a

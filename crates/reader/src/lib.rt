@@ -1,14 +1,9 @@
-// The calls that read a lent track: Accept over home and sectors; Walk, Find and Pair find over candidates.
-pub mod accepting;
+// The calls that read any lent track, sound or damaged, by its candidates: Find, Walk and Pair find.
 pub mod candidate;
 pub mod finding;
-pub mod home;
 pub mod pair;
 pub mod walk;
 
-pub use accepting::Judged;
-pub use accepting::accept;
-pub use accepting::judge;
 pub use candidate::Candidate;
 pub use candidate::Standing;
 pub use candidate::first_opens_at;
@@ -20,8 +15,6 @@ pub use finding::Part;
 pub use finding::Wanted;
 pub use finding::find;
 pub use finding::find_part;
-pub use home::HomeJudged;
-pub use home::judge_home;
 pub use pair::Paired;
 pub use pair::pair_find;
 pub use pair::pair_find_part;

@@ -15,7 +15,7 @@ use crate::packed_visit;
 pub extern "C" fn iso3561_accept(track: &[u8], marks: &[u8]) -> u64
     ensures { λ r. ⌜ r ≡ packedAnswer (answerOf (accept (now (track .entry)) (now (marks .entry)))) ⌝ }
 {
-    packed_answer(reader::accept(track, marks))
+    packed_answer(accepting::accept(track, marks))
 }
 
 // Find: where the part of sector S lies, 0 the key and 1 the data; 14 for any other part, before all else.

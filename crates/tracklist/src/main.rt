@@ -41,12 +41,12 @@ fn write_sectors(track: &[u8], marks: &[u8]) {
 
 // Writes the lines of a track and its marks, or that it is refused.
 fn list(track: &[u8], marks: &[u8]) {
-    match reader::judge(track, marks) {
-        reader::Judged::Accepted(h) => {
+    match accepting::judge(track, marks) {
+        accepting::Judged::Accepted(h) => {
             write_home(h);
             write_sectors(track, marks);
         }
-        reader::Judged::Refused(a) => write_refused(a.number),
+        accepting::Judged::Refused(a) => write_refused(a.number),
     }
 }
 

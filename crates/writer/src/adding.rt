@@ -168,9 +168,9 @@ pub fn add(
     if !both_lent(track, marks, new_track.len(), new_marks.len()) {
         return format::lent_wrong();
     }
-    let judged = reader::judge(track, marks);
+    let judged = accepting::judge(track, marks);
     match judged {
-        reader::Judged::Accepted(h) => {
+        accepting::Judged::Accepted(h) => {
             let start = h.place + 25;
             add_on(
                 track,
@@ -185,6 +185,6 @@ pub fn add(
                 body,
             )
         }
-        reader::Judged::Refused(a) => a,
+        accepting::Judged::Refused(a) => a,
     }
 }

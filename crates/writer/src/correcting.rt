@@ -180,12 +180,12 @@ pub fn correct(
     if !both_lent(track, marks, new_track.len(), new_marks.len()) {
         return format::lent_wrong();
     }
-    let judged = reader::judge(track, marks);
+    let judged = accepting::judge(track, marks);
     match judged {
-        reader::Judged::Accepted(h) => {
+        accepting::Judged::Accepted(h) => {
             let start = h.place + 25;
             correct_on(track, marks, new_track, new_marks, start, s, key, body)
         }
-        reader::Judged::Refused(a) => a,
+        accepting::Judged::Refused(a) => a,
     }
 }

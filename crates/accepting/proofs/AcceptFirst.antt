@@ -1,0 +1,123 @@
+-- Sector 0 on a track without stray marks: its span by the next mark, and what is left behind it.
+use mathlib.Core.Path.{_≡_, refl, sym, ap, ap₂, _∙_}
+use Prim.Native.Nat.{ℕ, _+_, _-_, _≤_}
+use native.Mathlib.Omega.{arith}
+use mathlib.Core.Bool.{Bool, true, false}
+use mathlib.Core.List.{List, [], _∷_, _++_}
+use lib.ListN.{length, take, drop, length-append, length-drop}
+use lib.Seq.{drop-at, drop-drop}
+use Rattle.format.specs.Answer.{Answer, firstCountMissing}
+use Rattle.format.specs.Judged.{answerOf}
+use Rattle.format.specs.Lent.{cells}
+use Rattle.format.specs.Opening.{startsWith, plainOpening}
+use Rattle.format.specs.Address.{Address, addressIn}
+use Rattle.format.specs.Home.{Home}
+use Rattle.format.specs.Count.{unsettled, settled}
+use Rattle.format.specs.Span.{runsToIndex, spanLength, afterOpening, beforeOpening, laterSpans, spans, joined, none}
+use Rattle.format.specs.Sector.{sectorIn, settle, judgeSector, readSpan}
+use Rattle.format.specs.Accept.{readSpans}
+use Rattle.format.proofs.Judged.{and-both}
+use Rattle.format.proofs.Lists.{part-all}
+use Rattle.format.proofs.Shape.{cleanSpan, cleanSpans, FirstReaches}
+use Rattle.format.proofs.Opening.{starts-with-append}
+use Rattle.format.proofs.Cutting.{before-joined, before-whole, shape-spans, shape-later, later-joined}
+use Rattle.format.proofs.Marks.{marks-clean}
+use Rattle.format.proofs.SpanAgrees.{span-agrees}
+use Rattle.format.proofs.Pairs.{drop-cells}
+use Rattle.format.proofs.CandidateBytes.{after-bytes}
+use Rattle.search.proofs.Cells.{length-cells}
+use Rattle.sector.proofs.Opening.{plain-length}
+use Rattle.accepting.specs.Accepting.{Rest, Unstrayed}
+use Rattle.accepting.proofs.AcceptAnswers.{refusal-stays, answer-then, sector-zero}
+use Rattle.accepting.proofs.AcceptSpans.{before-later}
+
+-- Sector 0 opens on the track where it opens in its span.
+pub opens-first : (d : List ℕ) → FirstReaches 18 (spans d) → startsWith plainOpening (beforeOpening d) ≡ startsWith plainOpening d
+unfolding spans
+opens-first d f = go (laterSpans d) refl f
+  where
+    go : (gs : List (List ℕ)) → laterSpans d ≡ gs → FirstReaches 18 (beforeOpening d ∷ gs) → startsWith plainOpening (beforeOpening d) ≡ startsWith plainOpening d
+    go [] z f = ap (startsWith plainOpening) (before-whole d z)
+    go (k ∷ gs) z f =
+        sym (starts-with-append plainOpening (beforeOpening d) (joined (laterSpans d)) (omega arith)) ∙ ap (startsWith plainOpening) (before-joined d)
+
+-- The span of sector 0 at place p, of n cells.
+pub record First (p n : ℕ) (t m : List ℕ) : Type 0 where
+  pub opened : startsWith plainOpening (beforeOpening (drop p (cells t m))) ≡ true
+  pub size : length (beforeOpening (drop p (cells t m))) ≡ n
+  pub opening : 6 ≤ n
+  pub fits : p + n ≤ length t
+  pub bytes : take (p + n - (p + 6)) (drop (p + 6) t) ≡ drop 6 (beforeOpening (drop p (cells t m)))
+  pub last : runsToIndex 6 (drop p (cells t m)) ≡ none (laterSpans (drop p (cells t m)))
+  pub rest-cut : laterSpans (cells (drop (p + n) t) (drop (p + n) m)) ≡ laterSpans (drop p (cells t m))
+  pub rest : Rest (p + n) (drop (p + n) t) (drop (p + n) m)
+
+-- Sector 0 opens, and its span is that by the next mark.
+pub first-front : (p : ℕ) (t m : List ℕ) (n : ℕ) → Unstrayed p t m → startsWith plainOpening (drop p (cells t m)) ≡ true → n ≡ spanLength 6 (drop p (cells t m)) → First p n t m
+unfolding spans cleanSpans
+first-front p t m n u o e =
+    let d : List ℕ = drop p (cells t m) in
+    let g : List ℕ = beforeOpening d in
+    let gs : List (List ℕ) = laterSpans d in
+    let c = marks-clean (p + 18) p (cells t m) refl (u .judged) in
+    let opened : startsWith plainOpening g ≡ true = opens-first d (c .2) ∙ o in
+    let six : 6 ≤ length g = plain-length g opened in
+    let whole : g ++ joined gs ≡ d = before-joined d in
+    let a = span-agrees 0 g gs (shape-spans d) (c .1) six in
+    let size : length g ≡ n = sym (e ∙ ap (spanLength 6) (sym whole) ∙ a .0) in
+    let fits : p + n ≤ length t = omega (arith, ap length whole, length-append g (joined gs), length-drop p (cells t m), length-cells t m, u .reach) in
+    let behind : cells (drop (p + n) t) (drop (p + n) m) ≡ joined gs =
+    sym (drop-cells (p + n) t m) ∙ sym (drop-drop n p (cells t m)) ∙ ap (drop n) (sym whole) ∙ drop-at g (joined gs) n size in
+    let cut : laterSpans (cells (drop (p + n) t) (drop (p + n) m)) ≡ gs = ap laterSpans behind ∙ later-joined 0 gs (shape-later 0 d) in
+    let k : p + n - (p + 6) ≡ spanLength 6 d - 6 = omega arith in
+    record {
+      opened = opened;
+      size = size;
+      opening = omega arith;
+      fits = fits;
+      bytes = sym (after-bytes 6 p (p + n - (p + 6)) t m k) ∙ ap (afterOpening 6) (sym whole) ∙ a .1;
+      last = ap (runsToIndex 6) (sym whole) ∙ a .2;
+      rest-cut = cut;
+      rest = record {
+        lengths = omega (arith, length-drop (p + n) t, length-drop (p + n) m, u .lengths);
+        within = omega (arith, length-drop (p + n) t, u .within);
+        opened = ap beforeOpening behind ∙ before-later 0 gs (shape-later 0 d);
+        clean = ap (cleanSpans 1) cut ∙ and-both (cleanSpan 0 g) (cleanSpans 1 gs) (c .1) .1;
+      };
+    }
+
+-- What is left behind sector 0, as two slices.
+pub first-rest : (p n : ℕ) (t m : List ℕ) → First p n t m → Rest (p + n) (take (length t - (p + n)) (drop (p + n) t)) (take (length m - (p + n)) (drop (p + n) m))
+first-rest p n t m f = rw (part-all (p + n) t, part-all (p + n) m) (f .rest)
+
+-- Sector 0's count does not open.
+pub first-missing : (h : Home) (p : ℕ) (t m : List ℕ) → Unstrayed p t m → startsWith plainOpening (drop p (cells t m)) ≡ false
+    → answerOf (readSpans h 0 unsettled p (spans (drop p (cells t m)))) ≡ firstCountMissing p
+unfolding readSpans readSpan spans
+first-missing h p t m u o =
+    let d : List ℕ = drop p (cells t m) in
+    rw (opens-first d (marks-clean (p + 18) p (cells t m) refl (u .judged) .2) ∙ o)
+
+-- Sector 0 by the answer b that its bytes give.
+module _ (h : Home) (p n : ℕ) (t m : List ℕ) (f : First p n t m) (last : Bool) (l : last ≡ runsToIndex 6 (drop p (cells t m)))
+    (b : Answer) (e : b ≡ answerOf (judgeSector h 0 unsettled p last (take (p + n - (p + 6)) (drop (p + 6) t)))) where
+  by-span : b ≡ answerOf (judgeSector h 0 unsettled p (none (laterSpans (drop p (cells t m)))) (drop 6 (beforeOpening (drop p (cells t m)))))
+  by-span = e ∙ ap₂ (λ (z : Bool) (r : List ℕ). answerOf (judgeSector h 0 unsettled p z r)) (l ∙ f .last) (f .bytes)
+
+  -- It is refused.
+  pub first-refused : (b .number ≡ 0 → ⊥) → b ≡ answerOf (readSpans h 0 unsettled p (spans (drop p (cells t m))))
+  unfolding readSpans readSpan spans
+  first-refused ne =
+      rw (f .opened) (by-span ∙ sym (refusal-stays (judgeSector h 0 unsettled p (none (laterSpans (drop p (cells t m)))) (drop 6 (beforeOpening (drop p (cells t m))))) _ (λ z. ne (ap (λ (a : Answer). a .number) by-span ∙ z))))
+
+  -- It is good, settles the address a, and what is left behind it decides.
+  pub first-good : (a : Address) → a ≡ addressIn (take (p + n - (p + 6)) (drop (p + 6) t)) → b .number ≡ 0
+      → answerOf (readSpans h 1 (settled a) (p + n) (laterSpans (cells (take (length t - (p + n)) (drop (p + n) t)) (take (length m - (p + n)) (drop (p + n) m)))))
+      ≡ answerOf (readSpans h 0 unsettled p (spans (drop p (cells t m))))
+  unfolding readSpans readSpan spans settle sectorIn
+  first-good a k z =
+      let d : List ℕ = drop p (cells t m) in
+      let r : List ℕ = drop 6 (beforeOpening d) in
+      let y = sector-zero h 0 unsettled p (none (laterSpans d)) r (ap (λ (a : Answer). a .number) (sym by-span) ∙ z) in
+      rw (part-all (p + n) t, part-all (p + n) m, f .rest-cut, f .opened, y, k, f .bytes, ← f .size)
+      (sym (answer-then (readSpans h 1 (settled (addressIn r)) (p + length (beforeOpening d)) (laterSpans d)) _))

@@ -1,0 +1,132 @@
+-- The spans of what is left of a track: the first one by the next mark, and what is left behind it.
+use mathlib.Core.Path.{_≡_, refl, sym, ap, ap₂, _∙_}
+use Prim.Native.Nat.{ℕ, suc, _+_, _-_, _≤_, _<_}
+use native.Mathlib.Omega.{arith}
+use mathlib.Core.Bool.{Bool, true}
+use mathlib.Core.List.{List, [], _∷_, _++_}
+use lib.ListN.{length, take, drop, length-append, length-drop}
+use lib.Seq.{drop-at}
+use Rattle.format.specs.Answer.{Answer, done}
+use Rattle.format.specs.Judged.{answerOf}
+use Rattle.format.specs.Address.{Address}
+use Rattle.format.specs.Home.{Home}
+use Rattle.format.specs.Count.{Settled, settled}
+use Rattle.format.specs.Sector.{judgeSector}
+use Rattle.format.specs.Accept.{readSpans}
+use Rattle.format.specs.Lent.{cells}
+use Rattle.format.specs.Span.{runsToIndex, spanLength, afterOpening, beforeOpening, laterSpans, joined, none}
+use Rattle.format.proofs.Judged.{and-both}
+use Rattle.format.proofs.Lists.{none-long, part-all}
+use Rattle.format.proofs.Shape.{Shape, cleanSpan, cleanSpans}
+use Rattle.format.proofs.Opening.{length-opens}
+use Rattle.format.proofs.Cutting.{before-joined, shape-later, later-joined}
+use Rattle.format.proofs.SpanAgrees.{span-agrees}
+use Rattle.format.proofs.Pairs.{drop-cells}
+use Rattle.format.proofs.CandidateBytes.{after-bytes}
+use Rattle.search.proofs.Cells.{length-cells}
+use Rattle.accepting.specs.Accepting.{Rest}
+use Rattle.accepting.proofs.AcceptAnswers.{spans-refused, spans-good}
+
+-- In a later position a span is clean as in any other.
+clean-two : (i j : ℕ) (gs : List (List ℕ)) → cleanSpans (suc i) gs ≡ cleanSpans (suc j) gs
+unfolding cleanSpans cleanSpan
+clean-two i j [] = refl
+clean-two i j (g ∷ gs) = rw (clean-two (suc i) (suc j) gs)
+
+-- The first span of what is left from place p on, of n cells.
+pub record Front (p n : ℕ) (t m : List ℕ) : Type 0 where
+  pub span : List ℕ
+  pub later : List (List ℕ)
+  pub cut : laterSpans (cells t m) ≡ span ∷ later
+  pub size : length span ≡ n
+  pub opening : 8 ≤ n
+  pub fits : n ≤ length t
+  pub bytes : take (n - 8) (drop 8 t) ≡ drop 8 span
+  pub last : runsToIndex 8 (cells t m) ≡ none later
+  pub rest-cut : laterSpans (cells (drop n t) (drop n m)) ≡ later
+  pub rest : Rest (p + n) (drop n t) (drop n m)
+
+-- Nothing stands before later spans that are joined.
+pub before-later : (i : ℕ) (gs : List (List ℕ)) → Shape (suc i) gs → beforeOpening (joined gs) ≡ []
+before-later i gs s = none-long (beforeOpening d) (omega (arith, ap length whole, length-append (beforeOpening d) d))
+  where
+    d : List ℕ
+    d = joined gs
+
+    whole : beforeOpening d ++ d ≡ d
+    whole = ap (λ (ks : List (List ℕ)). beforeOpening d ++ joined ks) (sym (later-joined i gs s)) ∙ before-joined d
+
+-- What is left of a track, if anything, starts with a span.
+module _ (p : ℕ) (t m : List ℕ) (n : ℕ) (r : Rest p t m) (e : n ≡ spanLength 8 (cells t m)) where
+  first-span : (g : List ℕ) (gs : List (List ℕ)) → laterSpans (cells t m) ≡ g ∷ gs → Front p n t m
+  unfolding cleanSpans
+  first-span g gs z =
+      let c : List ℕ = cells t m in
+      let whole : g ++ joined gs ≡ c =
+      ap₂ (λ (xs : List ℕ) (ks : List (List ℕ)). xs ++ joined ks) (sym (r .opened)) (sym z) ∙ before-joined c in
+      let shape : Shape 1 (g ∷ gs) = rw z at (shape-later 0 c) in
+      let clean : cleanSpans 1 (g ∷ gs) ≡ true = ap (cleanSpans 1) (sym z) ∙ r .clean in
+      let eight : 8 ≤ length g = length-opens g (shape .0 .0) in
+      let a = span-agrees 1 g gs shape clean eight in
+      let size : length g ≡ n = sym (e ∙ ap (spanLength 8) (sym whole) ∙ a .0) in
+      let fits : n ≤ length t = omega (arith, ap length whole, length-append g (joined gs), length-cells t m, r .lengths) in
+      let behind : cells (drop n t) (drop n m) ≡ joined gs = sym (drop-cells n t m) ∙ ap (drop n) (sym whole) ∙ drop-at g (joined gs) n size in
+      let cut : laterSpans (cells (drop n t) (drop n m)) ≡ gs = ap laterSpans behind ∙ later-joined 1 gs (shape .1) in
+      record {
+        span = g;
+        later = gs;
+        cut = z;
+        size = size;
+        opening = omega arith;
+        fits = fits;
+        bytes = sym (after-bytes 8 0 (n - 8) t m (ap (λ (k : ℕ). k - 8) e)) ∙ ap (afterOpening 8) (sym whole) ∙ a .1;
+        last = ap (runsToIndex 8) (sym whole) ∙ a .2;
+        rest-cut = cut;
+        rest = record {
+          lengths = omega (arith, length-drop n t, length-drop n m, r .lengths);
+          within = omega (arith, length-drop n t, r .within);
+          opened = ap beforeOpening behind ∙ before-later 1 gs (shape .1);
+          clean = ap (cleanSpans 1) cut ∙ clean-two 0 1 gs ∙ and-both (cleanSpan 1 g) (cleanSpans 2 gs) clean .1;
+        };
+      }
+
+  pub front : 0 < length t → Front p n t m
+  front l = go (laterSpans (cells t m)) refl
+    where
+      go : (gs : List (List ℕ)) → laterSpans (cells t m) ≡ gs → Front p n t m
+      go [] z =
+          let whole : [] ≡ cells t m = ap₂ (λ (xs : List ℕ) (ks : List (List ℕ)). xs ++ joined ks) (sym (r .opened)) (sym z) ∙ before-joined (cells t m) in
+          absurd (omega (arith, ap length whole, length-cells t m, r .lengths))
+      go (g ∷ gs) z = first-span g gs z
+
+-- Nothing is left: there is no span.
+pub no-span : (t m : List ℕ) → length t ≡ 0 → laterSpans (cells t m) ≡ []
+unfolding cells laterSpans
+no-span [] m e = refl
+no-span (b ∷ t) m e = absurd (omega arith)
+
+-- Nothing is left to read.
+pub rest-none : (h : Home) (i : ℕ) (x : Settled) (p : ℕ) (t m : List ℕ) → length t ≡ 0 → answerOf (readSpans h i x p (laterSpans (cells t m))) ≡ done
+unfolding readSpans
+rest-none h i x p t m e = rw (no-span t m e)
+
+-- What is left behind the first span of n cells, as two slices.
+pub rest-next : (p n : ℕ) (t m : List ℕ) → Front p n t m → Rest (p + n) (take (length t - n) (drop n t)) (take (length m - n) (drop n m))
+rest-next p n t m f = rw (part-all n t, part-all n m) (f .rest)
+
+-- The first span of what is left, in a later position, by the answer b that its bytes give.
+module _ (h : Home) (i : ℕ) (a : Address) (p n : ℕ) (t m : List ℕ) (f : Front p n t m) (last : Bool) (l : last ≡ runsToIndex 8 (cells t m))
+    (b : Answer) (e : b ≡ answerOf (judgeSector h (suc i) (settled a) p last (take (n - 8) (drop 8 t)))) where
+  by-span : b ≡ answerOf (judgeSector h (suc i) (settled a) p (none (f .later)) (drop 8 (f .span)))
+  by-span = e ∙ ap₂ (λ (z : Bool) (r : List ℕ). answerOf (judgeSector h (suc i) (settled a) p z r)) (l ∙ f .last) (f .bytes)
+
+  -- It is refused.
+  pub front-refused : (b .number ≡ 0 → ⊥) → b ≡ answerOf (readSpans h (suc i) (settled a) p (laterSpans (cells t m)))
+  front-refused ne = rw (f .cut) (spans-refused h i a p (f .span) (f .later) b by-span ne)
+
+  -- It is good, and what is left behind it decides.
+  pub front-good : b .number ≡ 0
+      → answerOf (readSpans h (suc (suc i)) (settled a) (p + n) (laterSpans (cells (take (length t - n) (drop n t)) (take (length m - n) (drop n m)))))
+      ≡ answerOf (readSpans h (suc i) (settled a) p (laterSpans (cells t m)))
+  front-good z =
+      rw (part-all n t, part-all n m, f .rest-cut, f .cut, ← f .size) (spans-good h i a p (f .span) (f .later) b by-span z)

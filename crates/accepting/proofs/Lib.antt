@@ -1,0 +1,8 @@
+-- The laws that lead from judging a track to the definitions.
+pub mod AcceptBytes
+pub mod AcceptHome
+pub mod AcceptAnswers
+pub mod AcceptSpans
+pub mod AcceptFirst
+pub mod AcceptNumbers
+pub mod AcceptBehind

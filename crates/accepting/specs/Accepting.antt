@@ -1,0 +1,66 @@
+-- What judging a home and a whole track gives.
+use mathlib.Core.Path.{_≡_}
+use Prim.Native.Nat.{ℕ, suc, _+_, _≤_}
+use mathlib.Core.Bool.{true, not}
+use mathlib.Core.List.{List, [], _∷_}
+use lib.ListN.{length, drop}
+use Rattle.format.specs.Answer.{answerAt, sectorRepeated}
+use Rattle.format.specs.Judged.{Judged, good, refused, require}
+use Rattle.format.specs.Lent.{cells}
+use Rattle.format.specs.Home.{Home}
+use Rattle.format.specs.Count.{countNumber}
+use Rattle.format.specs.Span.{beforeOpening, laterSpans}
+use Rattle.format.specs.Sector.{openingLength, isFirst}
+use Rattle.format.specs.Accept.{judgeMarks, among}
+use Rattle.format.proofs.Shape.{cleanSpans}
+use Rattle.sector.specs.As.{asHome}
+use Rattle.accepting.specs.declared.home.HomeJudged.{HomeJudged}
+use Rattle.accepting.specs.declared.home.HomeJudged.the-variants.{Right, Refused}
+use Rattle.accepting.specs.declared.Judged.{Judged as JudgedCode}
+use Rattle.accepting.specs.declared.Judged.the-variants.{Accepted, Refused as RefusedTrack}
+
+-- The home, or the answer that refuses it.
+abbrev pub judgedHome : HomeJudged → Judged Home
+judgedHome (Right h) = good (asHome h)
+judgedHome (Refused a) = refused (answerAt (a .number) (a .place))
+
+-- A home that is right starts at place p.
+abbrev pub homeStandsAt : ℕ → HomeJudged → Type 0
+homeStandsAt p (Right h) = h .place ≡ p
+homeStandsAt p (Refused a) = Unit {0}
+
+-- A home that is right starts in its window, 23 to 37.
+abbrev pub homeInWindow : HomeJudged → Type 0
+homeInWindow (Right h) = (23 ≤ h .place) × (h .place ≤ 37)
+homeInWindow (Refused a) = Unit {0}
+
+-- What is left of a track from place p on: nothing, or it starts with a whole opening; and no mark of it is stray.
+pub record Rest (p : ℕ) (t m : List ℕ) : Type 0 where
+  pub lengths : length m ≡ length t
+  pub within : p + length t ≤ 4002
+  pub opened : beforeOpening (cells t m) ≡ []
+  pub clean : cleanSpans 1 (laterSpans (cells t m)) ≡ true
+
+-- A lent track without stray marks, on which sector 0 stands at place p.
+pub record Unstrayed (p : ℕ) (t m : List ℕ) : Type 0 where
+  pub lengths : length m ≡ length t
+  pub within : length t ≤ 4002
+  pub reach : p ≤ length t
+  pub judged : judgeMarks (p + 18) 0 0 (cells t m) ≡ good tt
+
+-- 13 by the spans gs alone, the first of which stands in position i and at place p; `seen` has the numbers passed.
+unfoldable pub numbersIn : List ℕ → ℕ → ℕ → List (List ℕ) → Judged (Unit {0})
+numbersIn seen i p [] = good tt
+numbersIn seen i p (g ∷ gs) =
+    let n = countNumber (drop (openingLength (isFirst i)) g) in
+    require (not (among n seen)) (sectorRepeated p) (numbersIn (n ∷ seen) (suc i) (p + length g) gs)
+
+-- The home of an accepted track, or the answer that refuses the track.
+abbrev pub judgedTrack : JudgedCode → Judged Home
+judgedTrack (Accepted h) = good (asHome h)
+judgedTrack (RefusedTrack a) = refused (answerAt (a .number) (a .place))
+
+-- The home of an accepted track starts in its window, 23 to 37.
+abbrev pub trackInWindow : JudgedCode → Type 0
+trackInWindow (Accepted h) = (23 ≤ h .place) × (h .place ≤ 37)
+trackInWindow (RefusedTrack a) = Unit {0}

@@ -1,0 +1,2 @@
+-- What judging a track gives, in the words of the track format.
+pub mod Accepting

@@ -1,0 +1,171 @@
+// Accept: judges a lent track from its marks and its sectors to their numbers.
+ghost use mathlib.Core.Path.{_≡_};
+ghost use mathlib.Core.Bool.{true};
+ghost use mathlib.Core.List.{[]};
+ghost use Prim.Native.Nat.{_≤_};
+ghost use lib.ListN.{drop};
+ghost use Rattle.format.specs.Answer.{answerAt};
+ghost use Rattle.format.specs.Judged.{answerOf, good, then};
+ghost use Rattle.format.specs.Lent.{lentForReading, cells};
+ghost use Rattle.format.specs.Opening.{startsWith, plainOpening};
+ghost use Rattle.format.specs.Count.{unsettled, settled};
+ghost use Rattle.format.specs.Span.{laterSpans, spans};
+ghost use Rattle.format.specs.Sector.{judgeSector};
+ghost use Rattle.format.specs.Accept.{readSpans, judgeBehind, accept};
+ghost use Rattle.sector.specs.As.{asAddress, asHome, asSettled};
+ghost use Rattle.accepting.specs.Accepting.{Rest, Unstrayed, numbersIn, judgedTrack, trackInWindow};
+use sector::Address;
+use sector::Home;
+use sector::Named;
+use sectors::sector_at;
+
+pub mod home;
+
+pub use home::HomeJudged;
+pub use home::judge_home;
+
+// The answer for a sector in position i and at place p by what follows its count's opening: 9, 7, 8, then 9, 10, 11.
+fn judge_sector(h: Home, i: usize, x: Named, p: usize, last: bool, r: &[u8]) -> format::Answer
+    requires { ⌜ p ≤ 4002 ⌝ }
+    ensures { λ a. ⌜ answerAt (a .number) (a .place) ≡ answerOf (judgeSector (asHome h) i (asSettled x) p last (now (r .entry))) ⌝ }
+{
+    let a = sector::judge_count(h, i, x, p, r);
+    if a.number != 0 {
+        return a;
+    }
+    sector::judge_blocks(i == 0, p as u32, last, r)
+}
+
+// The answer for the sectors from the odd one at the front of what is left on: its B8 is 1.
+fn judge_odd(track: &[u8], marks: &[u8], p: usize, h: Home, named: Address) -> format::Answer
+    requires { ⌜ Rest p (now track) (now marks) ⌝ }
+    ensures { λ a. ⌜ answerAt (a .number) (a .place) ≡ answerOf (readSpans (asHome h) 1 (settled (asAddress named)) p (laterSpans (cells (now (track .entry)) (now (marks .entry))))) ⌝ }
+{
+    if track.len() == 0 {
+        return format::done();
+    }
+    let span = search::span_at(track, marks, 0, 8);
+    let n = span.length;
+    let a = judge_sector(h, 1, Named::Settled(named), p, span.last, &track[8..n]);
+    if a.number != 0 {
+        return a;
+    }
+    judge_even(&track[n..], &marks[n..], p + n, h, named)
+}
+
+// The answer for the sectors from the even one at the front of what is left on: its B8 is 0.
+fn judge_even(track: &[u8], marks: &[u8], p: usize, h: Home, named: Address) -> format::Answer
+    requires { ⌜ Rest p (now track) (now marks) ⌝ }
+    ensures { λ a. ⌜ answerAt (a .number) (a .place) ≡ answerOf (readSpans (asHome h) 2 (settled (asAddress named)) p (laterSpans (cells (now (track .entry)) (now (marks .entry))))) ⌝ }
+{
+    if track.len() == 0 {
+        return format::done();
+    }
+    let span = search::span_at(track, marks, 0, 8);
+    let n = span.length;
+    let a = judge_sector(h, 2, Named::Settled(named), p, span.last, &track[8..n]);
+    if a.number != 0 {
+        return a;
+    }
+    judge_odd(&track[n..], &marks[n..], p + n, h, named)
+}
+
+// The answer for the sectors from sector 0 at place p on: 6 where its count does not open, then sector by sector.
+fn judge_sectors(track: &[u8], marks: &[u8], p: usize, h: Home) -> format::Answer
+    requires { ⌜ Unstrayed p (now track) (now marks) ⌝ }
+    ensures { λ a. ⌜ answerAt (a .number) (a .place) ≡ answerOf (readSpans (asHome h) 0 unsettled p (spans (drop p (cells (now (track .entry)) (now (marks .entry)))))) ⌝ }
+{
+    if !search::opens_plain(track, marks, p) {
+        return format::first_count_missing(p);
+    }
+    let span = search::span_at(track, marks, p, 6);
+    let from = p + 6;
+    let to = p + span.length;
+    let a = judge_sector(h, 0, Named::Unsettled, p, span.last, &track[from..to]);
+    if a.number != 0 {
+        return a;
+    }
+    let named = sector::address_in(&track[from..to]);
+    judge_odd(&track[to..], &marks[to..], to, h, named)
+}
+
+// The answer for the numbers of the sectors from sector 0 at place p on: 13 for the leftmost that repeats an earlier one.
+fn judge_numbers(track: &[u8], marks: &[u8], p: usize) -> format::Answer
+    requires { ⌜ Unstrayed p (now track) (now marks) ⌝ }
+    requires { ⌜ startsWith plainOpening (drop p (cells (now track) (now marks))) ≡ true ⌝ }
+    ensures { λ a. ⌜ answerAt (a .number) (a .place) ≡ answerOf (numbersIn [] 0 p (spans (drop p (cells (now (track .entry)) (now (marks .entry)))))) ⌝ }
+{
+    let mut seen: [u8; 256] = [0; 256];
+    let zero = sector_at(track, marks, true, p);
+    let number = zero.number as usize;
+    seen[number] = 1;
+    let mut q = zero.next;
+    while q < track.len() {
+        let x = sector_at(track, marks, false, q);
+        let s = x.number as usize;
+        if seen[s] != 0 {
+            return format::sector_repeated(q);
+        }
+        seen[s] = 1;
+        q = x.next;
+    }
+    format::done()
+}
+
+// The answer for a track behind its home h: 5, then the sectors, then 13.
+fn judge_behind(track: &[u8], marks: &[u8], h: Home) -> format::Answer
+    requires { ⌜ lentForReading (now track) (now marks) ≡ true ⌝ }
+    requires { ⌜ h .place ≤ 37 ⌝ }
+    ensures { λ a. ⌜ answerAt (a .number) (a .place) ≡ answerOf (judgeBehind (asHome h) (cells (now (track .entry)) (now (marks .entry)))) ⌝ }
+{
+    let p = h.place + 25;
+    let strayed = search::judge_marks(track, marks, p + 18);
+    match strayed {
+        search::Strayed::Nowhere => {
+            let a = judge_sectors(track, marks, p, h);
+            if a.number != 0 {
+                return a;
+            }
+            judge_numbers(track, marks, p)
+        }
+        search::Strayed::At(q) => format::mark_stray(q),
+    }
+}
+
+// The home of an accepted track, or the answer that refuses the track.
+pub enum Judged {
+    Accepted(Home),
+    Refused(format::Answer),
+}
+
+// The whole track: 1 to 5, then sector by sector, last 13.
+pub fn judge(track: &[u8], marks: &[u8]) -> Judged
+    ensures { λ j. ⌜ judgedTrack j ≡ then (accept (now (track .entry)) (now (marks .entry))) (λ a. good (a .home)) ⌝ }
+    ensures { λ j. ⌜ trackInWindow j ⌝ }
+{
+    if !search::lent_for_reading(track, marks) {
+        return Judged::Refused(format::lent_wrong());
+    }
+    let home = judge_home(track, marks);
+    match home {
+        HomeJudged::Right(h) => {
+            let behind = judge_behind(track, marks, h);
+            if behind.number != 0 {
+                return Judged::Refused(behind);
+            }
+            Judged::Accepted(h)
+        }
+        HomeJudged::Refused(a) => Judged::Refused(a),
+    }
+}
+
+// Accept: the answer for the whole track.
+pub fn accept(track: &[u8], marks: &[u8]) -> format::Answer
+    ensures { λ a. ⌜ answerAt (a .number) (a .place) ≡ answerOf (accept (now (track .entry)) (now (marks .entry))) ⌝ }
+{
+    let judged = judge(track, marks);
+    match judged {
+        Judged::Accepted(_) => format::done(),
+        Judged::Refused(a) => a,
+    }
+}
