@@ -23,9 +23,8 @@ use Rattle.format.proofs.Opening.{starts-with-append}
 use Rattle.format.proofs.Cutting.{before-joined, before-whole, shape-spans, shape-later, later-joined}
 use Rattle.format.proofs.Marks.{marks-clean}
 use Rattle.format.proofs.SpanAgrees.{span-agrees}
-use Rattle.format.proofs.Pairs.{drop-cells}
+use Rattle.format.proofs.Pairs.{length-cells, drop-cells}
 use Rattle.format.proofs.CandidateBytes.{after-bytes}
-use Rattle.search.proofs.Cells.{length-cells}
 use Rattle.sector.proofs.Opening.{plain-length}
 use Rattle.accepting.specs.Accepting.{Rest, Unstrayed}
 use Rattle.accepting.proofs.AcceptAnswers.{refusal-stays, answer-then, sector-zero}

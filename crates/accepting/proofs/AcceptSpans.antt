@@ -21,9 +21,8 @@ use Rattle.format.proofs.Shape.{Shape, cleanSpan, cleanSpans}
 use Rattle.format.proofs.Opening.{length-opens}
 use Rattle.format.proofs.Cutting.{before-joined, shape-later, later-joined}
 use Rattle.format.proofs.SpanAgrees.{span-agrees}
-use Rattle.format.proofs.Pairs.{drop-cells}
+use Rattle.format.proofs.Pairs.{length-cells, drop-cells}
 use Rattle.format.proofs.CandidateBytes.{after-bytes}
-use Rattle.search.proofs.Cells.{length-cells}
 use Rattle.accepting.specs.Accepting.{Rest}
 use Rattle.accepting.proofs.AcceptAnswers.{spans-refused, spans-good}
 

@@ -20,7 +20,7 @@ judged-place p r h e =
     ap (λ (x : Home). x .place) (good-inj (homeOf p r) h (b .1))
 
 -- A home that is found starts in the window that is searched.
-found-window : (n q p : ℕ) (c : List ℕ) → homeFrom n q c ≡ good p → (q ≤ p) × (suc p ≤ q + n)
+pub found-window : (n q p : ℕ) (c : List ℕ) → homeFrom n q c ≡ good p → (q ≤ p) × (suc p ≤ q + n)
 unfolding homeFrom
 found-window zero q p c e = refused-good _ _ e
 found-window (suc n) q p c e =

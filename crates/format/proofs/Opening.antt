@@ -5,7 +5,7 @@ use native.Mathlib.Omega.{arith}
 use mathlib.Core.Bool.{Bool, true, false}
 use mathlib.Core.List.{List, [], _∷_, _++_}
 use mathlib.Core.Logic.{_⊎_, inl, inr}
-use lib.ListN.{length, take, drop, getD, replicate}
+use lib.ListN.{length, take, drop, getD, replicate, length-append}
 use lib.Dec.{ltb, eqb, lit<}
 use borrow.Author.Tests.{eqb-true, eq-eqb, ltb-true, lt-ltb}
 use Rattle.format.specs.Lent.{unmarked}
@@ -24,6 +24,10 @@ starts-with-front (x ∷ o) [] e = false-true e
 starts-with-front (x ∷ o) (y ∷ c) e =
     let h = and-both (eqb x y) (startsWith o c) e in
     ap₂ (λ (z : ℕ) (zs : List ℕ). z ∷ zs) (sym (eqb-true x y (h .0))) (starts-with-front o c (h .1))
+
+-- What starts with a list is at least as long.
+pub starts-length : (o c : List ℕ) → startsWith o c ≡ true → length o ≤ length c
+starts-length o c e = omega (arith, ap length (starts-with-front o c e), length-append o (drop (length o) c))
 
 -- Whether a long enough list starts with another does not turn on what follows it.
 pub starts-with-append : (o r ys : List ℕ) → length o ≤ length r → startsWith o (r ++ ys) ≡ startsWith o r

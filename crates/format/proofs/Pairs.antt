@@ -1,6 +1,6 @@
 -- Cells as a track and its marks, and back.
 use mathlib.Core.Path.{_≡_, refl, sym, ap, ap₂, _∙_}
-use Prim.Native.Nat.{ℕ, zero, suc, _/_, _%_}
+use Prim.Native.Nat.{ℕ, zero, suc, _/_, _%_, min}
 use native.Mathlib.Omega.{arith}
 use mathlib.Core.Bool.{Bool, true, _&&_}
 use mathlib.Core.List.{List, [], _∷_, map}
@@ -50,12 +50,12 @@ marks-cells (b ∷ t) (k ∷ m) e u =
     let h = and-both (ltb b 256) (unmarked t) u in
     ap₂ (λ (x : ℕ) (d : List ℕ). x ∷ d) (omega (arith, ltb-true b 256 (h .0))) (marks-cells t m (omega arith) (h .1))
 
--- Cells are as many as the bytes, the marks as many as the cells, and the bytes too.
-pub length-cells : (t m : List ℕ) → length m ≡ length t → length (cells t m) ≡ length t
+-- There are as many cells as the shorter list has elements.
+pub length-cells : (t m : List ℕ) → length (cells t m) ≡ min (length t) (length m)
 unfolding cells
-length-cells [] m e = refl
-length-cells (b ∷ t) [] e = absurd (omega arith)
-length-cells (b ∷ t) (k ∷ m) e = ap suc (length-cells t m (omega arith))
+length-cells [] m = omega arith
+length-cells (b ∷ t) [] = omega arith
+length-cells (b ∷ t) (k ∷ m) = omega (arith, length-cells t m)
 
 cells-none : (t : List ℕ) → cells t [] ≡ []
 unfolding cells
@@ -70,6 +70,7 @@ drop-cells (suc n) [] m = refl
 drop-cells (suc n) (b ∷ t) [] = sym (cells-none (drop n t))
 drop-cells (suc n) (b ∷ t) (k ∷ m) = drop-cells n t m
 
+-- The bytes are as many as the cells, and so are the marks.
 pub length-bytes : (c : List ℕ) → length (bytesOf c) ≡ length c
 unfolding bytesOf
 length-bytes c = length-map c (λ x. x % 256)
@@ -150,7 +151,7 @@ pub lent-length : (t m : List ℕ) → lentForReading t m ≡ true → (length (
 unfolding lentForReading lentForWriting
 lent-length t m e =
     let w = and-both (lengthRight (length t) && eqb (length m) (length t)) (marksLegal m) e in
-    (length-cells t m (lent-marks t m e), and-both (lengthRight (length t)) (eqb (length m) (length t)) (w .0) .0)
+    (omega (arith, length-cells t m, lent-marks t m e), and-both (lengthRight (length t)) (eqb (length m) (length t)) (w .0) .0)
 
 -- Cells as a pair.
 abbrev pub pairOf : List ℕ → Pair

@@ -6,7 +6,7 @@ ghost use Rattle.format.specs.Lent.{cells};
 ghost use Rattle.format.specs.Address.{sameAddress};
 ghost use Rattle.format.specs.Span.{afterOpening};
 ghost use Rattle.format.specs.Accept.{accept};
-ghost use Rattle.format.specs.PairFind.{namedTrack, judgeFirstCount as countJudged, judgeFirst, pairAgrees, findOnSecond, pairFind};
+ghost use Rattle.format.specs.PairFind.{namedTrack, judgeFirstCount, judgeFirst, pairAgrees, findOnSecond, pairFind};
 ghost use Rattle.sector.specs.As.{asAddress, asHome};
 ghost use Rattle.accepting.specs.Accepting.{judgedHome, homeInWindow};
 ghost use Rattle.reader.specs.Finding.{asWanted};
@@ -52,7 +52,7 @@ fn behind_opening<'a>(track: &'a [u8], marks: &[u8], p: usize) -> &'a [u8]
 // The home h of a track whose count of sector 0 is right: 6 where it does not open, 9 where it does not fit, then 7, then 8.
 fn judge_first_count(track: &[u8], marks: &[u8], h: Home) -> HomeJudged
     requires { ⌜ (23 ≤ h .place) × (h .place ≤ 37) ⌝ }
-    ensures { λ r. ⌜ judgedHome r ≡ countJudged (asHome h) (cells (now (track .entry)) (now (marks .entry))) ⌝ }
+    ensures { λ r. ⌜ judgedHome r ≡ judgeFirstCount (asHome h) (cells (now (track .entry)) (now (marks .entry))) ⌝ }
     ensures { λ r. ⌜ homeInWindow r ⌝ }
 {
     let p = h.place + 25;

@@ -1,24 +1,16 @@
--- Laws that lead from the two lent lists to their cells, and of cells that start with an opening.
+-- Laws that lead from the two lent lists to their cells, and of an opening that is compared cell by cell.
 use mathlib.Core.Path.{_≡_, refl, ap}
-use Prim.Native.Nat.{ℕ, zero, suc, _+_, _*_, _≤_, _<_, min}
-use mathlib.Core.Bool.{Bool, true, false, _&&_}
+use Prim.Native.Nat.{ℕ, zero, suc, _+_, _*_, _<_}
+use mathlib.Core.Bool.{false}
 use mathlib.Core.List.{List, [], _∷_}
 use native.Mathlib.Numerals.{add-one}
 use native.Mathlib.Nat.{le-of-suc-le-suc}
 use native.Mathlib.Omega.{arith}
-use lib.Dec.{eqb}
 use lib.ListN.{length, getD, take, drop}
 use lib.Seq.{drop-cons}
 use borrow.Author.Tests.{eq-eqb, ne-eqb}
 use Rattle.format.specs.Lent.{cells}
 use Rattle.format.specs.Opening.{startsWith}
-
--- There are as many cells as the shorter list has elements.
-pub length-cells : (t m : List ℕ) → length (cells t m) ≡ min (length t) (length m)
-unfolding cells
-length-cells [] m = omega arith
-length-cells (b ∷ t) [] = omega arith
-length-cells (b ∷ t) (k ∷ m) = omega (arith, length-cells t m)
 
 -- A cell is its byte and its mark.
 pub getD-cells : (t m : List ℕ) (i : ℕ) → i < length (cells t m) → getD (cells t m) i 0 ≡ getD t i 0 + 256 * getD m i 0
@@ -35,16 +27,6 @@ take-cells zero t m = refl
 take-cells (suc n) [] m = refl
 take-cells (suc n) (b ∷ t) [] = refl
 take-cells (suc n) (b ∷ t) (k ∷ m) = ap (λ (c : List ℕ). (b + 256 * k) ∷ c) (take-cells n t m)
-
--- Cells that start with an opening have its length.
-pub starts-length : (o c : List ℕ) → startsWith o c ≡ true → length o ≤ length c
-starts-length [] c e = omega arith
-starts-length (x ∷ o) [] e = let z : _≡_ {A = Bool} false true = e in let y : _≡_ {A = ℕ} 0 1 = cc in absurd (omega arith)
-starts-length (x ∷ o) (y ∷ c) e = omega (arith, starts-length o c (tail (eqb x y) e))
-  where
-    tail : (b : Bool) → (b && startsWith o c) ≡ true → startsWith o c ≡ true
-    tail true e = e
-    tail false e = let y : _≡_ {A = ℕ} 0 1 = cc in absurd (omega arith)
 
 -- An opening is compared from its cell k on with the cells from place p + k on, and so cell by cell.
 module _ (o c : List ℕ) (p k : ℕ) (h : k < length o) (l : p + k < length c) where

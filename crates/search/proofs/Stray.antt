@@ -1,27 +1,23 @@
 -- Laws of the search for stray marks: from one place to the next.
 use mathlib.Core.Path.{_≡_, refl, sym, _∙_}
-use Prim.Native.Nat.{ℕ, zero, suc, _+_, _≤_, _<_}
+use Prim.Native.Nat.{ℕ, _+_, _≤_, _<_}
 use mathlib.Core.Bool.{Bool, true, false, _&&_}
-use mathlib.Core.List.{List, [], _∷_}
+use mathlib.Core.List.{List}
 use native.Mathlib.Numerals.{add-one}
 use native.Mathlib.Omega.{arith}
 use lib.Dec.{leb}
 use lib.ListN.{length, getD, drop, length-drop, drop-of-length-le}
 use lib.Seq.{drop-cons, drop-drop}
-use borrow.Author.Tests.{lt-ltb, le-ltb, le-leb, lt-leb}
+use borrow.Author.Tests.{lt-ltb, le-ltb, le-leb, lt-leb, leb-true}
 use Rattle.format.specs.Answer.{markStray}
 use Rattle.format.specs.Judged.{good, refused}
 use Rattle.format.specs.Lent.{cells}
-use Rattle.format.specs.Opening.{startsWith, markedOpening, opens}
+use Rattle.format.specs.Opening.{opens}
 use Rattle.format.specs.Accept.{judgeMarks}
-use Rattle.format.proofs.Marks.{marks-skip}
-use Rattle.search.proofs.Cells.{getD-cells, starts-length}
-
--- A marked opening at place e or later is passed as a whole.
-passed : (e q : ℕ) (c : List ℕ) → (opens c && leb e q) ≡ true → judgeMarks e 0 q c ≡ judgeMarks e 0 (q + 8) (drop 8 c)
-unfolding judgeMarks
-passed e q [] o = refl
-passed e q (x ∷ c) o = let n : q + 8 ≡ suc q + 7 = omega arith in rw (n, o) (marks-skip e 7 (suc q) c)
+use Rattle.format.proofs.Judged.{and-both}
+use Rattle.format.proofs.Opening.{length-opens}
+use Rattle.format.proofs.Marks.{marks-opening}
+use Rattle.search.proofs.Cells.{getD-cells}
 
 -- What starts before place e is not passed.
 pub starts-early : (e q : ℕ) (b : Bool) → q < e → (b && leb e q) ≡ false
@@ -40,19 +36,16 @@ marks-end e q c h = rw (drop-of-length-le c {i = q} h)
 
 -- A marked opening that starts at place e or later stands at place q: r says so.
 module _ (e q : ℕ) (c : List ℕ) (r : Bool) (so : r ≡ (opens (drop q c) && leb e q)) (yes : r ≡ true) where
+  it-opens : (opens (drop q c) ≡ true) × (leb e q ≡ true)
+  it-opens = and-both (opens (drop q c)) (leb e q) (sym so ∙ yes)
+
   -- It has eight cells.
   pub marks-room : q + 8 ≤ length c
-  unfolding opens
-  marks-room =
-      omega (arith, length-drop q c, starts-length markedOpening (drop q c) (first (startsWith markedOpening (drop q c)) (sym so ∙ yes)))
-    where
-      first : (a : Bool) → (a && leb e q) ≡ true → a ≡ true
-      first true f = refl
-      first false f = f
+  marks-room = omega (arith, length-drop q c, length-opens (drop q c) (it-opens .0))
 
   -- It is passed.
   pub marks-past : judgeMarks e 0 q (drop q c) ≡ judgeMarks e 0 (q + 8) (drop (q + 8) c)
-  marks-past = passed e q (drop q c) (sym so ∙ yes) ∙ rw drop-drop
+  marks-past = marks-opening e q (drop q c) (leb-true e q (it-opens .1)) (it-opens .0) ∙ rw drop-drop
 
 -- No such opening stands at place q of a lent pair, which has a cell there: r says so.
 module _ (e q : ℕ) (t m : List ℕ) (h : q < length (cells t m)) (r : Bool) (so : r ≡ (opens (drop q (cells t m)) && leb e q)) (no : r ≡ false) where

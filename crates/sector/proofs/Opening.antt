@@ -7,12 +7,10 @@ use mathlib.Core.Bool.{Bool, true, false, _&&_}
 use mathlib.Core.List.{List, [], _∷_, _++_}
 use lib.ListN.{length, getD, take, drop, length-drop}
 use lib.Seq.{drop-cons}
-use lib.Dec.{eqb, ltb}
-use borrow.Author.Tests.{ltb-true, ltb-false}
+use lib.Dec.{eqb}
 use Rattle.crc.specs.Check.{checkOf, checkBytes, agrees}
 use Rattle.format.specs.Opening.{startsWith, plainOpening, closing, closedAfter}
-use Rattle.format.proofs.Judged.{cases}
-use Rattle.format.proofs.Opening.{starts-short}
+use Rattle.format.proofs.Opening.{starts-length, starts-short}
 use Rattle.sector.proofs.Test.{and-true, and-assoc, eqb-comm}
 
 -- Cells that start with two lists in turn.
@@ -59,13 +57,7 @@ closed-three n c h =
 
 -- Cells that start with an unmarked opening are at least six.
 pub plain-length : (c : List ℕ) → startsWith plainOpening c ≡ true → 6 ≤ length c
-plain-length c e =
-    cases (ltb (length c) 6)
-    (λ t.
-    let z = sym e ∙ starts-short plainOpening c (ltb-true (length c) 6 t) in
-    let y : _≡_ {A = ℕ} 0 1 = cc in
-    absurd (omega arith))
-    (λ f. ltb-false (length c) 6 f)
+plain-length c e = starts-length plainOpening c e
 
 module _ (c : List ℕ) where
   -- An opening and one 00.

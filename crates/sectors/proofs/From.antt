@@ -27,9 +27,8 @@ use Rattle.format.proofs.Standing.{FitsCount, info-fits}
 use Rattle.format.proofs.ReadBack.{read-stands}
 use Rattle.format.proofs.ReadsAs.{Reads, accepted-by}
 use Rattle.format.proofs.AcceptedSpans.{accepted-track}
-use Rattle.format.proofs.Pairs.{accepted-pair, lent-marks, lent-length}
+use Rattle.format.proofs.Pairs.{length-cells, accepted-pair, lent-marks, lent-length}
 use Rattle.format.proofs.SpanCandidates.{shape-rest, none-placed}
-use Rattle.search.proofs.Cells.{length-cells}
 use Rattle.sectors.specs.declared.SectorAt.{SectorAt}
 use Rattle.sectors.specs.Stepped.{Stepped, steppedAt, addressAt, asStepped}
 use Rattle.sectors.proofs.Stepping.{Stepping, stepping-made}

@@ -17,7 +17,7 @@ use Rattle.format.specs.Sector.{openingLength}
 use Rattle.format.proofs.Lists.{none-long}
 use Rattle.format.proofs.CandidateBytes.{after-length, after-front-bytes, after-bytes}
 use Rattle.search.proofs.Run.{span-le}
-use Rattle.search.proofs.Cells.{length-cells}
+use Rattle.format.proofs.Pairs.{length-cells}
 use Rattle.sectors.specs.Stepped.{Stepped, steppedIn, nowhere, restAt, steppedAt}
 
 -- A place in what follows a count's opening is one in the track.

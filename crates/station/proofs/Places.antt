@@ -19,7 +19,7 @@ use Rattle.format.specs.Sector.{Sector, openingLength, settle, judgeCount, read
 use Rattle.format.specs.Accept.{judgeMarks, readSpans, placedFrom, among, judgeNumbers, spansOf, firstCountEnd, judgeBehind, acceptCells, accept}
 use Rattle.format.specs.Find.{theKey, theData}
 use Rattle.format.proofs.Judged.{cases, and-both}
-use Rattle.format.proofs.HomeLocal.{home-window}
+use Rattle.format.proofs.HomeLocal.{found-window, home-window}
 use Rattle.format.proofs.StrayMark.{marks-stray}
 use Rattle.format.proofs.Cutting.{joined-spans}
 use Rattle.format.proofs.Pairs.{lent-length}
@@ -50,15 +50,6 @@ cells-few t m e =
     let k = and-both (leb 3815 (length t)) (leb (length t) 4002) (l .1) in
     omega (arith, l .0, leb-true (length t) 4002 (k .1))
 
--- Home is found before place q + n.
-found-below : (n q : ℕ) (c : List ℕ) (p : ℕ) → homeFrom n q c ≡ good p → p ≤ q + n
-unfolding homeFrom
-found-below zero q c p e = absurd (let z : _≡_ {A = ℕ} 0 1 = cc in omega arith)
-found-below (suc n) q c p e =
-    cases (startsWith plainOpening (drop q c))
-    (λ a. let g : good q ≡ good p = rw a at e in let same : q ≡ p = cc in omega arith)
-    (λ a. let ih = found-below n (suc q) c p (rw a at e) in omega arith)
-
 -- Where home opens nowhere the place is 23.
 missing-within : (n q : ℕ) (c : List ℕ) → Within (homeFrom n q c)
 unfolding homeFrom
@@ -71,7 +62,7 @@ pub home-within : (c : List ℕ) → Within (judgeHome c)
 unfolding judgeHome judgeHomeOf findHome
 home-within c =
     within-then (homeFrom 15 23 c) _ (missing-within 15 23 c) (λ p e.
-    let l = found-below 15 23 c p e in
+    let l = found-window 15 23 p c e in
     within-require (closedAfter 5 (homeBytes p c)) (homeCheckWrong p) _ (omega arith, omega arith) (λ _.
     within-require (homeFieldsRight (homeOf p (homeBytes p c))) (homeFieldsWrong p) _ (omega arith, omega arith) (λ _. (omega arith, omega arith))))
 
