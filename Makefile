@@ -48,12 +48,15 @@ target/examples/%: examples/%.c include/iso3561.h $(LIB)
 	mkdir -p $(@D)
 	$(CC) -std=c99 -Wall -Wextra -pedantic $(CFLAGS) -Iinclude $< $(LIB) -o $@
 
-# The C station makes the sample's very bytes, tracklist lists them, and the C reader reads them.
+# The C station makes the sample's very bytes, tracklist lists them, and the C reader reads them, and a defective track with its alternative.
 try: examples
+	@mkdir -p build
+	@rt check tracklist > build/list.log 2>&1 || { cat build/list.log; exit 1; }
 	target/examples/station target/examples/case5.bin
 	cmp target/examples/case5.bin samples/case5.bin
 	target/bin/tracklist < target/examples/case5.bin
 	target/examples/reader target/examples/case5.bin
+	target/examples/reader samples/defective.bin samples/alternative.bin
 
 # As many seeds as one likes: make soak SOAK=1000000 SEED=5000000
 soak: lib

@@ -98,7 +98,7 @@ static void print_track(const struct pair *pair) {
     printf("walk: %u\n", iso3561_walk_number(step));
 }
 
-/* Every count of the second track with the data that both tracks together give. */
+/* Every S of the second track with the data that both tracks together give. */
 static void print_pair(const struct pair *first, const struct pair *second) {
     uint64_t step = walk(second, 0);
     while (iso3561_walk_number(step) == ISO3561_DONE) {
@@ -106,8 +106,8 @@ static void print_pair(const struct pair *first, const struct pair *second) {
             first->track, first->track_length, first->marks, first->marks_length,
             second->track, second->track_length, second->marks, second->marks_length,
             iso3561_walk_sector(step), ISO3561_DATA);
-        print_count(step);
-        printf("  from the %s track\n", iso3561_which(found) ? "second" : "first");
+        printf("S %d, from the %s track\n", iso3561_walk_sector(step),
+               iso3561_which(found) ? "second" : "first");
         print_part(iso3561_which(found) ? second : first, found);
         step = walk(second, iso3561_walk_place(step) + 1);
     }

@@ -37,7 +37,7 @@ enum iso3561_number {
     ISO3561_NOT_FOUND = 12,   /* no candidate carries S, or none is left to walk to */
     ISO3561_REPEATED = 13,    /* two sectors carry one number, or Add repeats one */
     ISO3561_BAD_WANTED = 14,  /* a wanted field is out of rule */
-    ISO3561_FULL = 15,        /* the last block would end later than L - 13 */
+    ISO3561_FULL = 15,        /* fewer than 13 bytes would be left behind the last block */
     ISO3561_PAIR = 16         /* the two tracks do not agree, or the first is flagged 11 */
 };
 

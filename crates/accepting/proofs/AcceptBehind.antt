@@ -21,7 +21,7 @@ use Rattle.format.proofs.ReadSector.{read-inv}
 use Rattle.format.proofs.ReadsAs.{Reads, read-reads, reads-read}
 use Rattle.format.proofs.Marks.{marks-clean}
 use Rattle.format.proofs.StrayMark.{marks-stray}
-use Rattle.accepting.specs.Accepting.{Unstrayed, numbersIn}
+use Rattle.accepting.specs.Accepting.{NoStrayMark, numbersIn}
 use Rattle.accepting.proofs.AcceptAnswers.{refusal-stays, require-zero, answer-then, sector-zero}
 use Rattle.accepting.proofs.AcceptFirst.{opens-first}
 
@@ -60,7 +60,7 @@ numbers-placed h i x p (g ∷ gs) (s ∷ ss) seen e =
     rw (n, numbers-placed h (suc i) (settle x s) (p + length g) gs ss (countNumber (drop (openingLength (isFirst i)) g) ∷ seen) (e .1))
 
 -- A track that is lent within the rule, on which no mark is stray behind a home at q.
-pub unstrayed : (q : ℕ) (t m : List ℕ) → q ≤ 37 → lentForReading t m ≡ true → judgeMarks (q + 25 + 18) 0 0 (cells t m) ≡ good tt → Unstrayed (q + 25) t m
+pub unstrayed : (q : ℕ) (t m : List ℕ) → q ≤ 37 → lentForReading t m ≡ true → judgeMarks (q + 25 + 18) 0 0 (cells t m) ≡ good tt → NoStrayMark (q + 25) t m
 unfolding lentForReading lentForWriting lengthRight
 unstrayed q t m l e j =
     let w = and-both (lentForWriting (length t) (length m)) (marksLegal m) e in

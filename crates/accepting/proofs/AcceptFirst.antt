@@ -26,7 +26,7 @@ use Rattle.format.proofs.SpanAgrees.{span-agrees}
 use Rattle.format.proofs.Pairs.{length-cells, drop-cells}
 use Rattle.format.proofs.CandidateBytes.{after-bytes}
 use Rattle.sector.proofs.Opening.{plain-length}
-use Rattle.accepting.specs.Accepting.{Rest, Unstrayed}
+use Rattle.accepting.specs.Accepting.{Rest, NoStrayMark}
 use Rattle.accepting.proofs.AcceptAnswers.{refusal-stays, answer-then, sector-zero}
 use Rattle.accepting.proofs.AcceptSpans.{before-later}
 
@@ -52,7 +52,7 @@ pub record First (p n : ℕ) (t m : List ℕ) : Type 0 where
   pub rest : Rest (p + n) (drop (p + n) t) (drop (p + n) m)
 
 -- Sector 0 opens, and its span is that by the next mark.
-pub first-front : (p : ℕ) (t m : List ℕ) (n : ℕ) → Unstrayed p t m → startsWith plainOpening (drop p (cells t m)) ≡ true → n ≡ spanLength 6 (drop p (cells t m)) → First p n t m
+pub first-front : (p : ℕ) (t m : List ℕ) (n : ℕ) → NoStrayMark p t m → startsWith plainOpening (drop p (cells t m)) ≡ true → n ≡ spanLength 6 (drop p (cells t m)) → First p n t m
 unfolding spans cleanSpans
 first-front p t m n u o e =
     let d : List ℕ = drop p (cells t m) in
@@ -90,7 +90,7 @@ pub first-rest : (p n : ℕ) (t m : List ℕ) → First p n t m → Rest (p + n)
 first-rest p n t m f = rw (part-all (p + n) t, part-all (p + n) m) (f .rest)
 
 -- Sector 0's count does not open.
-pub first-missing : (h : Home) (p : ℕ) (t m : List ℕ) → Unstrayed p t m → startsWith plainOpening (drop p (cells t m)) ≡ false
+pub first-missing : (h : Home) (p : ℕ) (t m : List ℕ) → NoStrayMark p t m → startsWith plainOpening (drop p (cells t m)) ≡ false
     → answerOf (readSpans h 0 unsettled p (spans (drop p (cells t m)))) ≡ firstCountMissing p
 unfolding readSpans readSpan spans
 first-missing h p t m u o =

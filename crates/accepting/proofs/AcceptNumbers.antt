@@ -23,7 +23,7 @@ use Rattle.format.proofs.Marks.{marks-clean}
 use Rattle.format.proofs.Pairs.{drop-cells}
 use Rattle.format.proofs.CandidateBytes.{after-bytes}
 use Rattle.sectors.specs.Stepped.{Stepped, steppedIn, restAt, steppedAt}
-use Rattle.accepting.specs.Accepting.{Rest, Unstrayed, numbersIn}
+use Rattle.accepting.specs.Accepting.{Rest, NoStrayMark, numbersIn}
 use Rattle.accepting.proofs.AcceptSpans.{Front, front, no-span}
 use Rattle.accepting.proofs.AcceptFirst.{First, first-front}
 
@@ -131,7 +131,7 @@ module _ (t m : List ℕ) (q number next : ℕ) (s : Passed t m q number next) w
       rw (s .front-is .cut, ← s .number-is, eq-eqb (getD f number 0) 0 h, d, j)
 
 -- Sector 0 at place p: its number is the first that is passed, and what is left behind it decides.
-module _ (t m : List ℕ) (p : ℕ) (u : Unstrayed p t m) (o : startsWith plainOpening (drop p (cells t m)) ≡ true)
+module _ (t m : List ℕ) (p : ℕ) (u : NoStrayMark p t m) (o : startsWith plainOpening (drop p (cells t m)) ≡ true)
     (x : Stepped) (e : x ≡ steppedAt true p (cells t m)) where
   zero-next : x .next ≡ p + spanLength 6 (drop p (cells t m))
   zero-next = ap (λ (z : Stepped). z .next) e ∙ next-at true p (cells t m) (omega (arith, u .reach, u .within))

@@ -42,7 +42,7 @@ pub record Rest (p : ℕ) (t m : List ℕ) : Type 0 where
   pub clean : cleanSpans 1 (laterSpans (cells t m)) ≡ true
 
 -- A lent track without stray marks, on which sector 0 stands at place p.
-pub record Unstrayed (p : ℕ) (t m : List ℕ) : Type 0 where
+pub record NoStrayMark (p : ℕ) (t m : List ℕ) : Type 0 where
   pub lengths : length m ≡ length t
   pub within : length t ≤ 4002
   pub reach : p ≤ length t

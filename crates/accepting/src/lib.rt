@@ -13,7 +13,7 @@ ghost use Rattle.format.specs.Span.{laterSpans, spans};
 ghost use Rattle.format.specs.Sector.{judgeSector};
 ghost use Rattle.format.specs.Accept.{readSpans, judgeBehind, accept};
 ghost use Rattle.sector.specs.As.{asAddress, asHome, asSettled};
-ghost use Rattle.accepting.specs.Accepting.{Rest, Unstrayed, numbersIn, judgedTrack, trackInWindow};
+ghost use Rattle.accepting.specs.Accepting.{Rest, NoStrayMark, numbersIn, judgedTrack, trackInWindow};
 use sector::Address;
 use sector::Home;
 use sector::Named;
@@ -72,7 +72,7 @@ fn judge_even(track: &[u8], marks: &[u8], p: usize, h: Home, named: Address) -> 
 
 // The answer for the sectors from sector 0 at place p on: 6 where its count does not open, then sector by sector.
 fn judge_sectors(track: &[u8], marks: &[u8], p: usize, h: Home) -> format::Answer
-    requires { ⌜ Unstrayed p (now track) (now marks) ⌝ }
+    requires { ⌜ NoStrayMark p (now track) (now marks) ⌝ }
     ensures { λ a. ⌜ answerAt (a .number) (a .place) ≡ answerOf (readSpans (asHome h) 0 unsettled p (spans (drop p (cells (now (track .entry)) (now (marks .entry)))))) ⌝ }
 {
     if !search::opens_plain(track, marks, p) {
@@ -91,7 +91,7 @@ fn judge_sectors(track: &[u8], marks: &[u8], p: usize, h: Home) -> format::Answe
 
 // The answer for the numbers of the sectors from sector 0 at place p on: 13 for the leftmost that repeats an earlier one.
 fn judge_numbers(track: &[u8], marks: &[u8], p: usize) -> format::Answer
-    requires { ⌜ Unstrayed p (now track) (now marks) ⌝ }
+    requires { ⌜ NoStrayMark p (now track) (now marks) ⌝ }
     requires { ⌜ startsWith plainOpening (drop p (cells (now track) (now marks))) ≡ true ⌝ }
     ensures { λ a. ⌜ answerAt (a .number) (a .place) ≡ answerOf (numbersIn [] 0 p (spans (drop p (cells (now (track .entry)) (now (marks .entry)))))) ⌝ }
 {

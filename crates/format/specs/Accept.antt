@@ -64,7 +64,7 @@ pub record Accepted : Type 0 where
 abbrev pub spansOf : Home → List ℕ → List (List ℕ)
 spansOf h c = spans (drop (firstCountPlace (h .place)) c)
 
--- The place up to which no opening may start: sector 0's count has 18 bytes.
+-- No marked opening may start before this place: the end of sector 0's count, which has 18 bytes.
 abbrev pub firstCountEnd : ℕ → ℕ
 firstCountEnd p = p + 43
 

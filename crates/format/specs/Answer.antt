@@ -30,7 +30,7 @@ homeCheckWrong p = answerAt 3 p
 abbrev pub homeFieldsWrong : ℕ → Answer
 homeFieldsWrong p = answerAt 4 p
 
--- 5: the mark at p stands outside a whole opening, or in one that starts before sector 0's count ends.
+-- 5: the mark at p belongs to no whole opening, or to one that starts too early, before the end of sector 0's count.
 abbrev pub markStray : ℕ → Answer
 markStray p = answerAt 5 p
 
@@ -58,7 +58,7 @@ keyWrong p = answerAt 10 p
 abbrev pub dataWrong : ℕ → Answer
 dataWrong p = answerAt 11 p
 
--- 12: no candidate carries S, or Walk has none left.
+-- 12: there is no candidate with this S; or a walk has come to its end.
 abbrev pub sectorMissing : Answer
 sectorMissing = answerAt 12 0
 
@@ -70,7 +70,7 @@ sectorRepeated p = answerAt 13 p
 abbrev pub wantedWrong : Answer
 wantedWrong = answerAt 14 0
 
--- 15: the last block would end later than L - 13.
+-- 15: fewer than 13 bytes would be left behind the last block.
 abbrev pub roomMissing : Answer
 roomMissing = answerAt 15 0
 

@@ -1,4 +1,4 @@
--- Blank: home at 30 and sector 0 in a lent pair.
+-- Blank: a new track that has home at place 30 and sector 0 behind it.
 use Prim.Native.Nat.{ℕ}
 use mathlib.Core.Bool.{Bool, true, false, _&&_}
 use mathlib.Core.List.{List, [], _∷_, _++_}

@@ -20,7 +20,7 @@ keySize n = pick (eqb n 0) 0 (n + 20)
 unfoldable pub dataSize : ℕ → ℕ
 dataSize n = pick (eqb n 0) 7 (n + 9)
 
--- The data block's opening: 11 bytes after the key, or after the count if KL = 0.
+-- Where the data block opens: behind a gap of 11, which follows the key, or the count of a sector without one.
 unfoldable pub dataOffset : List ℕ → ℕ
 dataOffset r = keyOffset + keySize (keyLength r)
 

@@ -18,7 +18,7 @@ pub record Candidate : Type 0 where
   pub last : Bool
   pub rest : List ℕ
 
--- Sector 0's count opens at place p, where home opens by h; its check is not needed.
+-- Sector 0's count opens at place p, where home opens by h; home's own check plays no part.
 unfoldable pub firstOpensAt : Judged ℕ → ℕ → List ℕ → Bool
 firstOpensAt (refused a) p c = false
 firstOpensAt (good h) p c = eqb p (firstCountPlace h) && startsWith plainOpening c

@@ -1,4 +1,4 @@
--- Correct: sector S gets a new key and data.
+-- Correct: a new key and new data for the sector that carries S.
 use Prim.Native.Nat.{ℕ, _+_}
 use mathlib.Core.Bool.{Bool, true, false, _&&_}
 use mathlib.Core.List.{List, [], _∷_, _++_, map}
@@ -30,8 +30,8 @@ abbrev pub sectorsOf : List Placed → List Sector
 sectorsOf xs = map (λ x. x .sector) xs
 
 module _ (gap : ℕ → ℕ → ℕ) where
-  -- The track c, of which xs are the sectors from the corrected one on: what stands before its count's opening is copied,
-  -- from there to index all is in first-written form; 12 where there is no such sector.
+  -- The track c, of which xs are the sectors from the corrected one on: it is kept up to that count's opening, and these sectors are
+  -- laid out afresh behind it; 12 where there is no such sector.
   unfoldable pub rewrittenFrom : List ℕ → List ℕ → List ℕ → List Placed → Judged (List ℕ)
   rewrittenFrom c key body [] = refused sectorMissing
   rewrittenFrom c key body (x ∷ xs) =

@@ -32,6 +32,6 @@ sequenceRight i f = eqb (alternation f) (i % 2) && (pick (eqb i 0) (eqb (overflo
 unfoldable pub countFlagRight : ℕ → ℕ → ℕ → Bool
 countFlagRight h i f = (eqb (condition f) (condition h) && eqb (spareBits f) 0) && sequenceRight i f
 
--- The track keeps its own records, or has none elsewhere: flags 00 and 11.
+-- The counts of the track name the track itself: flags 00 and 11.
 unfoldable pub namesItself : ℕ → Bool
 namesItself f = eqb (condition f) 0 || eqb (condition f) 3

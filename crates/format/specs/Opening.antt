@@ -20,7 +20,7 @@ plainOpening = 0x00 ∷ 0x00 ∷ 0x00 ∷ 0x00 ∷ 0xFF ∷ 0x0E ∷ []
 abbrev pub markedFF : ℕ
 markedFF = 0x1FF
 
--- The opening of a later count: eight bytes, of which exactly the second and third FF are marked.
+-- The opening of a later count: eight bytes with three FF, the last two of them marked and no other byte.
 abbrev pub markedOpening : List ℕ
 markedOpening = 0x00 ∷ 0x00 ∷ 0x00 ∷ 0x00 ∷ 0xFF ∷ markedFF ∷ markedFF ∷ 0x0E ∷ []
 

@@ -50,12 +50,12 @@ module _ (gap : ℕ → ℕ → ℕ) where
   abbrev pub correctedPair : List ℕ → List ℕ → Correction → Judged Pair
   correctedPair t m a = correct gap t m (length t) (length t) (a .number) (a .key) (a .body)
 
-  -- Both fit together: with both new keys and data and first-written form from the opening of the left sector's count,
-  -- the first of xs, to index, the last block ends no later than L - 13.
+  -- Both fit together: if the sectors xs, which start with the left one of the two, are laid out afresh with both contents, 13 cells or more
+  -- are left behind the last block.
   unfoldable pub fitTogether : List ℕ → Correction → Correction → List Placed → Bool
   fitTogether c a b xs = leb (leftPlace xs + reach gap (withBoth a b (sectorsOf xs)) + leastGap true) (length c)
 
-  -- The track with both: what stands left of the left sector is kept, from there to index all is in first-written form.
+  -- The track with both: it is kept up to the left sector, and the sectors from there on are laid out afresh.
   unfoldable pub writtenTogether : List ℕ → Correction → Correction → List Placed → List ℕ
   writtenTogether c a b xs =
       take (leftPlace xs) c ++ joined (writtenSpans gap (length c - leftPlace xs) (withBoth a b (sectorsOf xs)))

@@ -34,7 +34,7 @@ unfoldable pub nextFrom : ℕ → List Candidate → Judged Visited
 nextFrom p [] = refused sectorMissing
 nextFrom p (x ∷ xs) = let r = nextFrom p xs in pick (leb p (x .place)) (good (visited x)) r
 
--- The step of a reader that has come to place p: over a pair that gives 1 each step answers 1.
+-- The step of a reader that has come to place p: 1 where the pair is lent out of rule, at every step alike.
 unfoldable pub step : ℕ → List ℕ → List ℕ → Judged Visited
 step p t m = require (lentForReading t m) lentWrong (nextFrom p (candidates (cells t m)))
 

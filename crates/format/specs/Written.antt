@@ -73,7 +73,7 @@ module _ (gap : ℕ → ℕ → ℕ) where
   unfoldable pub gapAfter : Sector → ℕ
   gapAfter s = gap (length (s .keyBytes)) (length (s .dataBytes))
 
-  -- How far the last block of the sectors ss reaches.
+  -- How many cells the sectors ss take from the first one's opening to the end of the last block.
   unfoldable pub reach : List Sector → ℕ
   reach [] = 0
   reach (s ∷ ss) = length (writtenSector s) + pick (none ss) 0 (gapAfter s + reach ss)

@@ -58,7 +58,7 @@ pub fn home_fields_wrong(p: usize) -> Answer
     }
 }
 
-// 5: the mark at p stands outside a whole opening, or in one that starts before sector 0's count ends.
+// 5: the mark at p belongs to no whole opening, or to one that starts too early, before the end of sector 0's count.
 pub fn mark_stray(p: usize) -> Answer
     ensures { λ r. ⌜ answerAt (r .number) (r .place) ≡ markStray p ⌝ }
 {
@@ -128,7 +128,7 @@ pub fn data_wrong(p: usize) -> Answer
     }
 }
 
-// 12: no candidate carries S, or none is left.
+// 12: there is no candidate with this S; or a walk has come to its end.
 pub fn sector_missing() -> Answer
     ensures { λ r. ⌜ answerAt (r .number) (r .place) ≡ sectorMissing ⌝ }
 {
@@ -158,7 +158,7 @@ pub fn wanted_wrong() -> Answer
     }
 }
 
-// 15: the last block would end later than L - 13.
+// 15: fewer than 13 bytes would be left behind the last block.
 pub fn room_missing() -> Answer
     ensures { λ r. ⌜ answerAt (r .number) (r .place) ≡ roomMissing ⌝ }
 {

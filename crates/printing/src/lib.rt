@@ -6,15 +6,20 @@ pub fn text(bytes: &[u8]) {
     io::write_all(STDOUT_FILENO, bytes);
 }
 
+// Writes a number.
+pub fn decimal(n: u64) {
+    io::print_decimal(STDOUT_FILENO, n);
+}
+
 // Writes a number and a space.
 pub fn field(n: u64) {
-    io::print_decimal(STDOUT_FILENO, n);
+    decimal(n);
     text(b" ");
 }
 
 // Writes a number and ends the line.
 pub fn last(n: u64) {
-    io::print_decimal(STDOUT_FILENO, n);
+    decimal(n);
     text(b"\n");
 }
 

@@ -10,7 +10,7 @@ use crate::count::key_length;
 // The key's opening comes 11 bytes after the count's 12.
 pub const KEY_OFFSET: usize = 23;
 
-// The offset of the data block's opening: 11 bytes after the key, or after the count if KL = 0.
+// Where the data block opens: behind a gap of 11, which follows the key, or the count of a sector without one.
 pub fn data_offset(r: &[u8]) -> usize
     ensures { λ n. ⌜ n ≡ dataOffset (now (r .entry)) ⌝ }
 {

@@ -1,41 +1,57 @@
-// Copies the records of a track out, sound or damaged: reads L track bytes and then L marks from standard input, and writes a line for each S whose key or
-// data Find hands out: S, the key and the data in hexadecimal, `-` for an empty or refused one.
+// Copies the records of a track out, sound or damaged. The track is given on standard input, its bytes and behind them as many marks. Writes a line for each S that Find
+// does not answer 12 for: S, the key and the data in hexadecimal, `-` for an empty one and `!` with the answer's number for a refused one; then `ended`.
 use libc::STDIN_FILENO;
 use printing::field;
 use printing::hexadecimal;
 use printing::text;
+use reader::Outcome;
 use reader::Wanted;
 
-// Writes the line of a record.
-fn write_record(s: u8, key: &[u8], body: &[u8]) {
-    field(s as u64);
-    hexadecimal(key);
-    text(b" ");
-    hexadecimal(body);
-    text(b"\n");
-}
-
-// Writes the record of sector S, if Find hands out its key or its data.
-fn write_found(track: &[u8], marks: &[u8], number: usize) {
-    let s = (number % 256) as u8;
-    let key = reader::find(track, marks, s, Wanted::TheKey);
-    let body = reader::find(track, marks, s, Wanted::TheData);
-    if key.len() == 0 {
-        if body.len() == 0 {
-            return;
-        }
+// The number of the answer to a part asked for.
+fn number_of(outcome: Outcome) -> u8 {
+    match outcome {
+        Outcome::Found(_) => 0,
+        Outcome::Refused(a) => a.number,
     }
-    write_record(s, key, body);
 }
 
-// Writes the records of all S, or that the input is refused.
-fn dump(track: &[u8], marks: &[u8]) {
-    if !search::lent_for_reading(track, marks) {
-        text(b"refused 1\n");
+// Writes a part of sector S with what follows it on the line, or the number of the answer that refuses it.
+fn write_part(track: &[u8], marks: &[u8], s: u8, wanted: Wanted, end: &[u8]) {
+    let number = number_of(reader::find_part(track, marks, s, wanted));
+    if number == 0 {
+        hexadecimal(reader::find(track, marks, s, wanted));
+    } else {
+        text(b"!");
+        printing::decimal(number as u64);
+    }
+    text(end);
+}
+
+// Writes the record of sector S, unless no candidate carries S.
+fn write_record(track: &[u8], marks: &[u8], number: usize) {
+    let s = (number % 256) as u8;
+    if number_of(reader::find_part(track, marks, s, Wanted::TheKey)) == 12 {
         return;
     }
+    field(s as u64);
+    write_part(track, marks, s, Wanted::TheKey, b" ");
+    write_part(track, marks, s, Wanted::TheData, b"\n");
+}
+
+// Writes the records of all S.
+fn write_records(track: &[u8], marks: &[u8]) {
     for s in 0..256 {
-        write_found(track, marks, s);
+        write_record(track, marks, s);
+    }
+}
+
+// Writes the records and that this is their end, or that the input is refused.
+fn dump(track: &[u8], marks: &[u8]) {
+    if search::lent_for_reading(track, marks) {
+        write_records(track, marks);
+        text(b"ended\n");
+    } else {
+        text(b"refused 1\n");
     }
 }
 

@@ -1,4 +1,4 @@
-// Lists a track: reads L track bytes and then L marks from standard input, and writes the track's address and flag and a line for each sector.
+// Lists a track that is given on standard input, its bytes and behind them as many marks: writes the track's address and flag and a line for each sector.
 use libc::STDIN_FILENO;
 use printing::field;
 use printing::last;

@@ -103,6 +103,7 @@ fn find_in_files(one: i32, two: i32, s: u8) {
     write_record(&first[..n], &second[..k], s);
 }
 
+// Finds the record that the arguments name, or says how to call the program.
 fn main() {
     let s = number_argument(3);
     if 255 < s {

@@ -1,4 +1,4 @@
-// Walks over a damaged track: reads L track bytes and then L marks from standard input, and writes place, flag, S, KL and DL of each
+// Walks over a track, sound or damaged, that is given on standard input, its bytes and behind them as many marks: writes place, flag, S, KL and DL of each
 // count that can be read, from left to right, and then the number of the answer that ends the walk.
 use libc::STDIN_FILENO;
 use printing::field;

@@ -123,7 +123,16 @@ fn hexadecimal(bytes: &[u8]) -> String {
     }
 }
 
-/// What trackdump prints by the reference: S, key and data of each S that Find hands something out of.
+/// What trackdump prints of a part: its bytes, or the number that refuses it.
+fn dumped_part(track: &[u8], marks: &[u8], s: u8, part: Part) -> String {
+    let (done, range) = find(track, marks, s, part);
+    match done.number {
+        0 => hexadecimal(&track[range]),
+        number => format!("!{number}"),
+    }
+}
+
+/// What trackdump prints by the reference: S, key and data of each S that some candidate carries.
 fn dumped(input: &[u8]) -> (u8, String) {
     let (track, marks) = input.split_at(input.len() / 2);
     if reference::accept(track, marks).number == 1 {
@@ -131,12 +140,12 @@ fn dumped(input: &[u8]) -> (u8, String) {
     }
     let mut lines = String::new();
     for s in 0..=255 {
-        let [key, data] = [Part::Key, Part::Data].map(|part| &track[find(track, marks, s, part).1]);
-        if !key.is_empty() || !data.is_empty() {
-            lines += &format!("{s} {} {}\n", hexadecimal(key), hexadecimal(data));
+        let [key, data] = [Part::Key, Part::Data].map(|part| dumped_part(track, marks, s, part));
+        if key != "!12" {
+            lines += &format!("{s} {key} {data}\n");
         }
     }
-    (0, lines)
+    (0, lines + "ended\n")
 }
 
 /// Runs a program on the inputs of the seeds and compares what it prints with what is expected.
