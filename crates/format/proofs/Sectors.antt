@@ -17,7 +17,7 @@ use Rattle.format.specs.Home.{Home, firstCountPlace}
 use Rattle.format.specs.Count.{Settled, unsettled, countFlag, countAddress, countAddressRight, countFieldsRight}
 use Rattle.format.specs.Span.{beforeOpening, laterSpans, spans, joined, none}
 use Rattle.format.specs.Sector.{Sector, openingLength, isFirst, settle, sectorIn}
-use Rattle.format.specs.Accept.{Placed, among, judgeNumbers, Accepted, spansOf, acceptCells, accept}
+use Rattle.format.specs.Accept.{Placed, placedFrom, among, judgeNumbers, Accepted, spansOf, acceptCells, accept}
 use Rattle.format.specs.Listing.{mostSectors}
 use Rattle.format.specs.Correct.{sectorsOf}
 use Rattle.format.proofs.Judged.{cases, false-true, and-both, require-good}
@@ -25,7 +25,7 @@ use Rattle.format.proofs.Cutting.{joined-spans}
 use Rattle.format.proofs.HomeLocal.{home-window}
 use Rattle.format.proofs.ReadSector.{ReadAs, behindOpening, read-inv, span-least}
 use Rattle.format.proofs.Pairs.{accepted-pair, lent-length}
-use Rattle.format.proofs.ReadsAs.{Reads, AcceptedBy, accepted-by, accepted-sectors, length-reads}
+use Rattle.format.proofs.ReadsAs.{Reads, accepted-by, accepted-sectors, length-reads}
 
 -- Spans that are read take 59 cells each, but for 8 less at index and 2 less in sector 0.
 pub length-spans : (h : Home) (i : ℕ) (x : Settled) (p : ℕ) (g : List ℕ) (gs : List (List ℕ)) (ss : List Sector) → Reads h i x p (g ∷ gs) ss
@@ -36,12 +36,25 @@ length-spans h i x p g [] (s ∷ ss) e =
 length-spans h i x p g (k ∷ gs) (s ∷ ss) e =
     omega (arith, length-append g (joined (k ∷ gs)), span-least h i x false g s (read-inv h i x p false g s (e .0)), length-spans h (suc i) (settle x s) (p + length g) k gs ss (e .1))
 
--- There is one sector for each span.
-pub length-sectors : (c : List ℕ) (a : Accepted) (b : AcceptedBy c a) → length (a .sectors) ≡ length (spansOf (a .home) c)
-length-sectors c a b =
+-- The spans of placed sectors are the spans.
+spans-placed : (p : ℕ) (gs : List (List ℕ)) (ss : List Sector) → length gs ≡ length ss → map (λ (x : Placed). x .span) (placedFrom p gs ss) ≡ gs
+unfolding placedFrom
+spans-placed p [] ss e = refl
+spans-placed p (g ∷ gs) [] e = absurd (omega arith)
+spans-placed p (g ∷ gs) (s ∷ ss) e = ap (λ (r : List (List ℕ)). g ∷ r) (spans-placed (p + length g) gs ss (omega arith))
+
+-- The sectors of an accepted track are sector 0 and one for each marked opening, span by span.
+pub sector-spans : (c : List ℕ) (a : Accepted) → acceptCells c ≡ good a → map (λ (x : Placed). x .span) (a .sectors) ≡ spansOf (a .home) c
+sector-spans c a e =
+    let b = accepted-by c a e in
     let h : Home = a .home in
-    sym (length-map (a .sectors) (λ (x : Placed). x .sector)) ∙ ap length (accepted-sectors c a b)
-    ∙ sym (length-reads h 0 unsettled (firstCountPlace (h .place)) (spansOf h c) (b .sectors) (b .reads))
+    let p : ℕ = firstCountPlace (h .place) in
+    ap (map (λ (x : Placed). x .span)) (b .placed)
+    ∙ spans-placed p (spansOf h c) (b .sectors) (length-reads h 0 unsettled p (spansOf h c) (b .sectors) (b .reads))
+
+-- So there is one sector for each span.
+pub length-sectors : (c : List ℕ) (a : Accepted) → acceptCells c ≡ good a → length (a .sectors) ≡ length (spansOf (a .home) c)
+length-sectors c a e = sym (length-map (a .sectors) (λ (x : Placed). x .span)) ∙ ap length (sector-spans c a e)
 
 -- No track holds more than 67 sectors.
 pub sectors-at-most-67 : (c : List ℕ) (a : Accepted) → acceptCells c ≡ good a → length c ≤ 4002 → length (a .sectors) ≤ 67
@@ -52,7 +65,7 @@ sectors-at-most-67 c a e l =
     let d : List ℕ = drop (firstCountPlace (h .place)) c in
     omega (
       arith,
-      length-sectors c a b,
+      length-sectors c a e,
       length-spans h 0 unsettled (firstCountPlace (h .place)) (beforeOpening d) (laterSpans d) (b .sectors) (b .reads),
       ap length (joined-spans d),
       length-drop (firstCountPlace (h .place)) c,
