@@ -1,4 +1,4 @@
--- On an accepted track the candidates are exactly the sectors, and the spans are those by the next mark.
+-- On an accepted track the candidates are exactly the sectors; on every track without a stray mark the spans are those by the next mark.
 use mathlib.Core.Path.{_≡_, refl, sym, ap, _∙_, subst}
 use Prim.Native.Nat.{ℕ, suc, _+_}
 use native.Mathlib.Omega.{arith}
@@ -10,17 +10,18 @@ use Rattle.format.specs.Judged.{Judged, good}
 use Rattle.format.specs.Lent.{unmarked}
 use Rattle.format.specs.Home.{Home, findHome, homeBytes, judgeHome, firstCountPlace}
 use Rattle.format.specs.Count.{Settled, unsettled}
-use Rattle.format.specs.Span.{runsToIndex, spanLength, joined, none}
+use Rattle.format.specs.Span.{afterOpening, runsToIndex, spanLength, spans, joined, none}
 use Rattle.format.specs.Sector.{Sector, openingLength, isFirst, settle}
-use Rattle.format.specs.Accept.{Placed, placedFrom, Accepted, spansOf, acceptCells}
+use Rattle.format.specs.Accept.{judgeMarks, Placed, placedFrom, Accepted, spansOf, firstCountEnd, acceptCells}
 use Rattle.format.specs.Candidate.{candidatesFrom, candidates}
 use Rattle.format.proofs.Judged.{false-true, and-both, then-good}
-use Rattle.format.proofs.Shape.{Shape, cleanSpan, cleanSpans}
-use Rattle.format.proofs.Opening.{unmarked-append}
-use Rattle.format.proofs.Cutting.{joined-spans, later-unmarked}
+use Rattle.format.proofs.Shape.{Shape, cleanSpan, cleanSpans, FirstReaches}
+use Rattle.format.proofs.Opening.{unmarked-append, length-opens}
+use Rattle.format.proofs.Cutting.{joined-spans, shape-spans, later-unmarked}
 use Rattle.format.proofs.HomeLocal.{judged-place}
-use Rattle.format.proofs.SpanAgrees.{span-agrees}
-use Rattle.format.proofs.ReadSector.{read-inv, span-least}
+use Rattle.format.proofs.SpanAgrees.{first-by-mark}
+use Rattle.format.proofs.Marks.{marks-clean}
+use Rattle.format.proofs.ReadSector.{read-inv}
 use Rattle.format.proofs.ReadsAs.{Reads, accepted-by}
 use Rattle.format.proofs.AcceptedSpans.{Track, acceptedOf, accepted-track}
 use Rattle.format.proofs.SpanCandidates.{candidatesOf, joined-seam, passed-over, shape-rest, candidates-reads, read-first, none-placed}
@@ -55,38 +56,79 @@ candidates-accepted c a e =
     ∙ candidates-track head h (spansOf h c) (t .0) (t .1)
     ∙ ap (λ (z : Accepted). candidatesOf (z .sectors)) (t .3)
 
--- The span of the sector x on the track c reaches to five cells before the next mark after its count's opening, or to index where `last` says so.
-pub record SpanByMark (c : List ℕ) (last : Bool) (x : Placed) : Type 0 where
-  pub span-is : x .span ≡ take (spanLength (openingLength (x .sector .first)) (drop (x .place) c)) (drop (x .place) c)
-  pub runs : runsToIndex (openingLength (x .sector .first)) (drop (x .place) c) ≡ last
+-- The span g of a count with an opening of o cells, at place p of the track c, is what the next mark gives: it reaches to five cells before the next mark
+-- after that opening, or to index, and the latter exactly where `last` says so.
+pub record SpanByMark (c : List ℕ) (o p : ℕ) (last : Bool) (g : List ℕ) : Type 0 where
+  pub length-is : spanLength o (drop p c) ≡ length g
+  pub span-is : take (spanLength o (drop p c)) (drop p c) ≡ g
+  pub rest-is : afterOpening o (drop p c) ≡ drop o g
+  pub runs : runsToIndex o (drop p c) ≡ last
 
--- So do the spans of all these sectors, of which the last one runs to index.
-abbrev pub SpansByMark : List ℕ → List Placed → Type 0
-SpansByMark c [] = Unit {0}
-SpansByMark c (x ∷ xs) = SpanByMark c (none xs) x × SpansByMark c xs
+-- So are all the spans gs, the first of which stands in position i and at place p; the last one runs to index, and no other.
+abbrev pub SpansByMark : List ℕ → ℕ → ℕ → List (List ℕ) → Type 0
+SpansByMark c i p [] = Unit {0}
+SpansByMark c i p (g ∷ gs) = SpanByMark c (openingLength (isFirst i)) p (none gs) g × SpansByMark c (suc i) (p + length g) gs
 
-spans-read : (c : List ℕ) (m : Home) (i : ℕ) (x : Settled) (p : ℕ) (gs : List (List ℕ)) (ss : List Sector) → Reads m i x p gs ss → Shape i gs → cleanSpans i gs ≡ true → drop p c ≡ joined gs
-    → SpansByMark c (placedFrom p gs ss)
-unfolding placedFrom cleanSpans
-spans-read c m i x p [] [] e t k d = tt
-spans-read c m i x p [] (s ∷ ss) e t k d = absurd e
-spans-read c m i x p (g ∷ gs) [] e t k d = absurd e
-spans-read c m i x p (g ∷ gs) (s ∷ ss) e t k d =
-    let v = read-inv m i x p (none gs) g s (e .0) in
-    let w = span-agrees i g gs t k (omega (arith, span-least m i x (none gs) g s v)) in
-    let f : s .first ≡ isFirst i = read-first m i x (none gs) g s v in
-    let q : drop (p + length g) c ≡ joined gs = sym (drop-drop (length g) p c) ∙ ap (drop (length g)) d ∙ drop-append-seam g (joined gs) in (
+-- Later spans hold their openings.
+later-reach : (i : ℕ) (gs : List (List ℕ)) → Shape (suc i) gs → FirstReaches 8 gs
+later-reach i [] t = tt
+later-reach i (g ∷ []) t = tt
+later-reach i (g ∷ k ∷ gs) t = length-opens g (t .0 .0)
+
+-- A first span of 18 cells holds its opening.
+first-reach : (gs : List (List ℕ)) → FirstReaches 18 gs → FirstReaches 6 gs
+first-reach [] l = tt
+first-reach (g ∷ []) l = tt
+first-reach (g ∷ k ∷ gs) l = omega arith
+
+-- Spans as cutting gives them, clean, are those by the next mark.
+clean-by-mark : (c : List ℕ) (i p : ℕ) (gs : List (List ℕ)) → Shape i gs → cleanSpans i gs ≡ true → FirstReaches (openingLength (isFirst i)) gs → drop p c ≡ joined gs
+    → SpansByMark c i p gs
+unfolding cleanSpans
+clean-by-mark c i p [] t k l d = tt
+clean-by-mark c i p (g ∷ gs) t k l d =
+    let w = first-by-mark i g gs t k l in
+    let q : drop (p + length g) c ≡ joined gs = sym (drop-drop (length g) p c) ∙ ap (drop (length g)) d ∙ drop-append-seam g (joined gs) in
+    let r : Shape (suc i) gs = shape-rest i g gs t in (
       record {
-        span-is = rw (f, d, w .0, take-append-seam g (joined gs));
-        runs = rw (f, d, w .2) (sym (none-placed m (suc i) (settle x s) (p + length g) gs ss (e .1)));
+        length-is = rw d (w .0);
+        span-is = rw (d, w .0, take-append-seam g (joined gs));
+        rest-is = rw d (w .1);
+        runs = rw d (w .2);
       },
-      spans-read c m (suc i) (settle x s) (p + length g) gs ss (e .1) (shape-rest i g gs t) (and-both (cleanSpan i g) (cleanSpans (suc i) gs) k .1) q,
+      clean-by-mark c (suc i) (p + length g) gs r (and-both (cleanSpan i g) (cleanSpans (suc i) gs) k .1) (later-reach i gs r) q,
+    )
+
+-- On every track to which answer 5 does not apply, the spans by cutting are those by the next mark.
+pub spans-by-mark : (c : List ℕ) (p : ℕ) → judgeMarks (firstCountEnd p) 0 0 c ≡ good tt → SpansByMark c 0 (firstCountPlace p) (spans (drop (firstCountPlace p) c))
+spans-by-mark c p e =
+    let n : ℕ = firstCountPlace p in
+    let d : List ℕ = drop n c in
+    let m = marks-clean (firstCountEnd p) n c (omega arith) e in
+    clean-by-mark c 0 n (spans d) (shape-spans d) (m .1) (first-reach (spans d) (m .2)) (sym (joined-spans d))
+
+-- The spans of sectors are those by the next mark, and the last one runs to index, and no other.
+abbrev pub SectorsByMark : List ℕ → List Placed → Type 0
+SectorsByMark c [] = Unit {0}
+SectorsByMark c (x ∷ xs) = SpanByMark c (openingLength (x .sector .first)) (x .place) (none xs) (x .span) × SectorsByMark c xs
+
+-- The sectors that such spans read as have them.
+sectors-by-mark : (c : List ℕ) (m : Home) (i : ℕ) (x : Settled) (p : ℕ) (gs : List (List ℕ)) (ss : List Sector) → Reads m i x p gs ss → SpansByMark c i p gs
+    → SectorsByMark c (placedFrom p gs ss)
+unfolding placedFrom
+sectors-by-mark c m i x p [] [] e w = tt
+sectors-by-mark c m i x p [] (s ∷ ss) e w = absurd e
+sectors-by-mark c m i x p (g ∷ gs) [] e w = absurd e
+sectors-by-mark c m i x p (g ∷ gs) (s ∷ ss) e w =
+    let v = read-inv m i x p (none gs) g s (e .0) in (
+      rw (read-first m i x (none gs) g s v, none-placed m (suc i) (settle x s) (p + length g) gs ss (e .1)) (w .0),
+      sectors-by-mark c m (suc i) (settle x s) (p + length g) gs ss (e .1) (w .1),
     )
 
 -- The spans of an accepted track are those by the next mark.
-pub spans-agree : (c : List ℕ) (a : Accepted) → acceptCells c ≡ good a → SpansByMark c (a .sectors)
+pub spans-agree : (c : List ℕ) (a : Accepted) → acceptCells c ≡ good a → SectorsByMark c (a .sectors)
 spans-agree c a e =
-    let t = accepted-track c a e in
+    let b = accepted-by c a e in
     let n : ℕ = firstCountPlace (a .home .place) in
-    subst (λ (z : Accepted). SpansByMark c (z .sectors)) (t .3)
-    (spans-read c (a .home) 0 unsettled n (spansOf (a .home) c) (t .0) (t .1 .reads) (t .1 .shape) (t .1 .clean) (sym (joined-spans (drop n c))))
+    subst (SectorsByMark c) (sym (b .placed))
+    (sectors-by-mark c (a .home) 0 unsettled n (spansOf (a .home) c) (b .sectors) (b .reads) (spans-by-mark c (a .home .place) (b .marks-judged)))

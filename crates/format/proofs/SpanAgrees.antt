@@ -12,7 +12,7 @@ use Rattle.format.specs.Lent.{unmarked}
 use Rattle.format.specs.Opening.{opens}
 use Rattle.format.specs.Span.{unmarkedRun, joined, none, afterOpening, runsToIndex, spanLength}
 use Rattle.format.specs.Sector.{openingLength, isFirst}
-use Rattle.format.proofs.Shape.{Shape, cleanSpan, cleanSpans}
+use Rattle.format.proofs.Shape.{Shape, cleanSpan, cleanSpans, FirstReaches}
 use Rattle.format.proofs.Judged.{and-both}
 use Rattle.format.proofs.Opening.{unmarked-drop, opens-front, length-opens}
 use Rattle.format.proofs.Cutting.{opens-joined}
@@ -68,12 +68,20 @@ pub opens-next : (i : ℕ) (g k : List ℕ) (gs : List (List ℕ)) → Shape i (
 opens-next zero g k gs s = opens-joined 0 k gs (s .1)
 opens-next (suc i) g k gs s = opens-joined (suc i) k gs (s .1)
 
--- The first of the spans is what the next mark gives: its length, what follows its opening, and is it the last?
-pub span-agrees : (i : ℕ) (g : List ℕ) (gs : List (List ℕ)) → Shape i (g ∷ gs) → cleanSpans i (g ∷ gs) ≡ true → openingLength (isFirst i) ≤ length g
+-- The first of the spans is what the next mark gives, where it is the last or holds its opening: its length, what follows its opening, and is it the last?
+pub first-by-mark : (i : ℕ) (g : List ℕ) (gs : List (List ℕ)) → Shape i (g ∷ gs) → cleanSpans i (g ∷ gs) ≡ true → FirstReaches (openingLength (isFirst i)) (g ∷ gs)
     → (spanLength (openingLength (isFirst i)) (joined (g ∷ gs)) ≡ length g)
     × (afterOpening (openingLength (isFirst i)) (joined (g ∷ gs)) ≡ drop (openingLength (isFirst i)) g)
     × (runsToIndex (openingLength (isFirst i)) (joined (g ∷ gs)) ≡ none gs)
 unfolding cleanSpans
-span-agrees i g [] s c l = span-last (openingLength (isFirst i)) g (clean-behind i g (and-both (cleanSpan i g) true c .0))
-span-agrees i g (k ∷ gs) s c l =
+first-by-mark i g [] s c l = span-last (openingLength (isFirst i)) g (clean-behind i g (and-both (cleanSpan i g) true c .0))
+first-by-mark i g (k ∷ gs) s c l =
     span-next (openingLength (isFirst i)) g (joined (k ∷ gs)) l (clean-behind i g (and-both (cleanSpan i g) (cleanSpans (suc i) (k ∷ gs)) c .0)) (opens-next i g k gs s)
+
+-- So it is wherever it holds its opening.
+pub span-agrees : (i : ℕ) (g : List ℕ) (gs : List (List ℕ)) → Shape i (g ∷ gs) → cleanSpans i (g ∷ gs) ≡ true → openingLength (isFirst i) ≤ length g
+    → (spanLength (openingLength (isFirst i)) (joined (g ∷ gs)) ≡ length g)
+    × (afterOpening (openingLength (isFirst i)) (joined (g ∷ gs)) ≡ drop (openingLength (isFirst i)) g)
+    × (runsToIndex (openingLength (isFirst i)) (joined (g ∷ gs)) ≡ none gs)
+span-agrees i g [] s c l = first-by-mark i g [] s c tt
+span-agrees i g (k ∷ gs) s c l = first-by-mark i g (k ∷ gs) s c l
