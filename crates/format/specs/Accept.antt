@@ -1,12 +1,12 @@
 -- Accept: judges the whole track.
 use Prim.Native.Nat.{ℕ, zero, suc, _+_}
-use mathlib.Core.Bool.{Bool, true, false, not, _&&_, _||_}
+use mathlib.Core.Bool.{Bool, false, not, _&&_, _||_}
 use mathlib.Core.List.{List, [], _∷_}
 use lib.ListN.{length, drop}
 use lib.Dec.{leb, ltb, eqb}
 use Rattle.crc.specs.Pick.{pick}
-use Rattle.format.specs.Answer.{Answer, lentWrong, markStray, sectorRepeated}
-use Rattle.format.specs.Judged.{Judged, good, refused, then, require}
+use Rattle.format.specs.Answer.{lentWrong, markStray, sectorRepeated}
+use Rattle.format.specs.Judged.{Judged, good, then, require}
 use Rattle.format.specs.Lent.{lentForReading, cells}
 use Rattle.format.specs.Opening.{opens}
 use Rattle.format.specs.Home.{Home, judgeHome, firstCountPlace}

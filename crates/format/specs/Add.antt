@@ -1,6 +1,6 @@
 -- Add: one more sector after the last.
 use Prim.Native.Nat.{ℕ, suc, _+_, _*_, _%_}
-use mathlib.Core.Bool.{Bool, true, false, _&&_}
+use mathlib.Core.Bool.{Bool, false, _&&_}
 use mathlib.Core.List.{List, [], _∷_, _++_}
 use lib.ListN.{length, take, drop, replicate}
 use lib.Dec.{leb, eqb}
@@ -9,11 +9,10 @@ use Rattle.format.specs.Answer.{lentWrong, sectorRepeated, sectorMissing
 use Rattle.format.specs.Judged.{Judged, good, refused, then, require}
 use Rattle.format.specs.Lent.{lentForReading, cells}
 use Rattle.format.specs.Flag.{condition}
-use Rattle.format.specs.Address.{Address}
 use Rattle.format.specs.Home.{Home}
 use Rattle.format.specs.Block.{blockEnd}
 use Rattle.format.specs.Sector.{Sector, openingLength}
-use Rattle.format.specs.Accept.{Placed, Accepted, acceptCells}
+use Rattle.format.specs.Accept.{Placed, acceptCells}
 use Rattle.format.specs.Written.{gapAfter, writtenBehind, Pair, asPair}
 use Rattle.format.specs.Blank.{contentRight}
 

@@ -1,14 +1,13 @@
 -- Blank: a new track that has home at place 30 and sector 0 behind it.
 use Prim.Native.Nat.{ℕ}
-use mathlib.Core.Bool.{Bool, true, false, _&&_}
+use mathlib.Core.Bool.{Bool, true, _&&_}
 use mathlib.Core.List.{List, [], _∷_, _++_}
 use lib.ListN.{length, replicate}
 use lib.Dec.{leb}
 use Rattle.crc.specs.Pick.{pick}
 use Rattle.format.specs.Answer.{lentWrong, wantedWrong}
-use Rattle.format.specs.Judged.{Judged, good, refused, then, require}
+use Rattle.format.specs.Judged.{Judged, require}
 use Rattle.format.specs.Lent.{lentForWriting}
-use Rattle.format.specs.Opening.{plainOpening, closing}
 use Rattle.format.specs.Flag.{namesItself}
 use Rattle.format.specs.Address.{Address, addressBytes, addressInRange, addressRight}
 use Rattle.format.specs.Sector.{Sector}

@@ -1,13 +1,13 @@
 -- The candidates of Find and Walk on any track, sound or damaged.
-use Prim.Native.Nat.{ℕ, suc, _+_}
-use mathlib.Core.Bool.{Bool, true, false, _&&_, _||_}
+use Prim.Native.Nat.{ℕ, suc}
+use mathlib.Core.Bool.{Bool, false, _&&_, _||_}
 use mathlib.Core.List.{List, [], _∷_}
 use lib.Dec.{eqb}
 use Rattle.crc.specs.Pick.{pick}
 use Rattle.format.specs.Judged.{Judged, good, refused}
 use Rattle.format.specs.Opening.{startsWith, plainOpening, opens}
 use Rattle.format.specs.Home.{findHome, firstCountPlace}
-use Rattle.format.specs.Count.{countFlag, countNumber, keyLength, dataLength, countFits, countClosed}
+use Rattle.format.specs.Count.{countFits, countClosed}
 use Rattle.format.specs.Span.{runsToIndex, afterOpening}
 use Rattle.format.specs.Sector.{openingLength}
 

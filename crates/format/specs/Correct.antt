@@ -1,14 +1,12 @@
 -- Correct: a new key and new data for the sector that carries S.
-use Prim.Native.Nat.{ℕ, _+_}
-use mathlib.Core.Bool.{Bool, true, false, _&&_}
-use mathlib.Core.List.{List, [], _∷_, _++_, map}
+use Prim.Native.Nat.{ℕ}
+use mathlib.Core.List.{List, [], _∷_, map}
 use lib.ListN.{length, take}
-use Rattle.crc.specs.Pick.{pick}
 use Rattle.format.specs.Answer.{lentWrong, sectorMissing, wantedWrong}
-use Rattle.format.specs.Judged.{Judged, good, refused, then, require}
+use Rattle.format.specs.Judged.{Judged, refused, then, require}
 use Rattle.format.specs.Lent.{cells}
 use Rattle.format.specs.Sector.{Sector}
-use Rattle.format.specs.Accept.{Placed, Accepted, accept, acceptCells}
+use Rattle.format.specs.Accept.{Placed, acceptCells}
 use Rattle.format.specs.Written.{writtenBehind, Pair, asPair}
 use Rattle.format.specs.Blank.{contentRight}
 use Rattle.format.specs.Add.{bothLent, fromNumber}

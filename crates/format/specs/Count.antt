@@ -1,7 +1,7 @@
 -- The count of a sector, read from what follows its opening: flag, C, H, S, KL, DL, check and closing byte, 12 bytes.
-use Prim.Native.Nat.{ℕ, _+_}
-use mathlib.Core.Bool.{Bool, true, false, _&&_}
-use mathlib.Core.List.{List, [], _∷_}
+use Prim.Native.Nat.{ℕ}
+use mathlib.Core.Bool.{Bool, _&&_}
+use mathlib.Core.List.{List}
 use lib.ListN.{length, getD}
 use lib.Dec.{leb}
 use Rattle.format.specs.Opening.{closedAfter}

@@ -1,6 +1,5 @@
 -- Find: the key's or the data's information of sector S on any track, sound or damaged.
 use Prim.Native.Nat.{ℕ, _+_}
-use mathlib.Core.Bool.{Bool, true, false}
 use mathlib.Core.List.{List, [], _∷_}
 use lib.ListN.{take, drop}
 use lib.Dec.{eqb}

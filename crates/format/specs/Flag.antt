@@ -1,6 +1,6 @@
 -- The flag byte of home and of counts; B8 is its top bit.
 use Prim.Native.Nat.{ℕ, _/_, _%_}
-use mathlib.Core.Bool.{Bool, true, false, _&&_, _||_}
+use mathlib.Core.Bool.{Bool, true, _&&_, _||_}
 use lib.Dec.{eqb}
 use Rattle.crc.specs.Pick.{pick}
 

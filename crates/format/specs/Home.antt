@@ -1,7 +1,7 @@
 -- Home: 14 bytes that start 23 to 37 bytes after index.
 use Prim.Native.Nat.{ℕ, zero, suc, _+_}
-use mathlib.Core.Bool.{Bool, true, false, _&&_}
-use mathlib.Core.List.{List, [], _∷_}
+use mathlib.Core.Bool.{Bool, _&&_}
+use mathlib.Core.List.{List}
 use lib.ListN.{take, drop, getD}
 use Rattle.crc.specs.Pick.{pick}
 use Rattle.format.specs.Answer.{homeMissing, homeCheckWrong, homeFieldsWrong}

@@ -1,5 +1,5 @@
 -- What judging gives: a value, or the answer that refuses it.
-use mathlib.Core.Bool.{Bool, true, false}
+use mathlib.Core.Bool.{Bool}
 use Rattle.crc.specs.Pick.{pick}
 use Rattle.format.specs.Answer.{Answer, done}
 

@@ -1,14 +1,13 @@
 -- List: an accepted track's sectors as records for the caller's list.
 use Prim.Native.Nat.{ℕ, _+_}
-use mathlib.Core.Bool.{Bool}
-use mathlib.Core.List.{List, [], map}
+use mathlib.Core.List.{List, map}
 use lib.ListN.{length}
 use lib.Dec.{leb, eqb}
 use Rattle.crc.specs.Pick.{pick}
 use Rattle.format.specs.Answer.{lentWrong}
-use Rattle.format.specs.Judged.{Judged, good, refused, then, require}
+use Rattle.format.specs.Judged.{Judged, good, then, require}
 use Rattle.format.specs.Block.{keyOffset, keySize}
-use Rattle.format.specs.Sector.{Sector, openingLength}
+use Rattle.format.specs.Sector.{openingLength}
 use Rattle.format.specs.Accept.{Placed, accept}
 
 -- A sector record: flag, S, KL, DL and the places of the information, the byte after the block's opening.

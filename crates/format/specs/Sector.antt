@@ -1,11 +1,11 @@
 -- A sector, and how it is read from its own span and nothing else.
 use Prim.Native.Nat.{ℕ, zero, suc, _+_}
 use mathlib.Core.Bool.{Bool, true, false}
-use mathlib.Core.List.{List, [], _∷_}
+use mathlib.Core.List.{List}
 use lib.ListN.{drop}
 use Rattle.crc.specs.Pick.{pick}
 use Rattle.format.specs.Answer.{firstCountMissing, countCheckWrong, countFieldsWrong, spanTooShort, keyWrong, dataWrong}
-use Rattle.format.specs.Judged.{Judged, good, refused, then, require}
+use Rattle.format.specs.Judged.{Judged, good, then, require}
 use Rattle.format.specs.Opening.{startsWith, plainOpening}
 use Rattle.format.specs.Address.{Address}
 use Rattle.format.specs.Home.{Home}

@@ -1,11 +1,10 @@
 -- Walk: from one candidate of any S to the next, left to right.
 use Prim.Native.Nat.{ℕ, suc}
-use mathlib.Core.Bool.{Bool}
 use mathlib.Core.List.{List, [], _∷_}
 use lib.Dec.{leb}
 use Rattle.crc.specs.Pick.{pick}
 use Rattle.format.specs.Answer.{lentWrong, sectorMissing}
-use Rattle.format.specs.Judged.{Judged, good, refused, then, require}
+use Rattle.format.specs.Judged.{Judged, good, refused, require}
 use Rattle.format.specs.Lent.{lentForReading, cells}
 use Rattle.format.specs.Count.{countFlag, countNumber, keyLength, dataLength}
 use Rattle.format.specs.Candidate.{Candidate, candidates}

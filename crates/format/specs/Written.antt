@@ -1,12 +1,12 @@
 -- First-written form: of a sector, and of all from a place to index.
 use Prim.Native.Nat.{ℕ, _+_, _-_, _/_, _%_}
-use mathlib.Core.Bool.{Bool, true, false, _&&_}
+use mathlib.Core.Bool.{Bool, true}
 use mathlib.Core.List.{List, [], _∷_, _++_}
 use lib.ListN.{length, replicate}
-use lib.Dec.{leb, eqb}
+use lib.Dec.{leb}
 use Rattle.crc.specs.Pick.{pick}
 use Rattle.format.specs.Answer.{roomMissing}
-use Rattle.format.specs.Judged.{Judged, good, refused, then, require}
+use Rattle.format.specs.Judged.{Judged, good, then, require}
 use Rattle.format.specs.Lent.{bytesOf, marksOf}
 use Rattle.format.specs.Opening.{plainOpening, markedOpening, closing}
 use Rattle.format.specs.Address.{addressBytes}

@@ -14,6 +14,7 @@ use Rattle.format.specs.declared.Answer.{Answer as AnswerCode}
 use Rattle.reader.specs.declared.candidate.Candidate.{Candidate as CandidateCode}
 use Rattle.reader.specs.declared.candidate.Standing.{Standing}
 use Rattle.reader.specs.declared.candidate.Standing.the-variants.{Stands, Not}
+use Rattle.reader.specs.declared.walk.Visited.{Visited as VisitedCode}
 use Rattle.reader.specs.declared.walk.Visit.{Visit}
 use Rattle.reader.specs.declared.walk.Visit.the-variants.{At, Refused as RefusedVisit}
 use Rattle.reader.specs.declared.finding.Wanted.{Wanted as WantedCode}
@@ -49,16 +50,20 @@ standingAt h p c = pick (standsAt h p c) (candidateAt (firstOpensAt h p c) p c �
 abbrev pub asAnswer : AnswerCode → Answer
 asAnswer a = answerAt (a .number) (a .place)
 
--- What a step gives: the candidate, or its refusal.
-abbrev pub judgedVisit : Visit → Judged Visited
-judgedVisit (At v) =
-    good (record {
+-- What a step gives of a candidate.
+abbrev pub asVisited : VisitedCode → Visited
+asVisited v =
+    record {
       place = v .place;
       flag = v .flag;
       number = v .number;
       keyLength = v .«key_length»;
       dataLength = v .«data_length»;
-    })
+    }
+
+-- What a step gives: the candidate, or its refusal.
+abbrev pub judgedVisit : Visit → Judged Visited
+judgedVisit (At v) = good (asVisited v)
 judgedVisit (RefusedVisit a) = refused (asAnswer a)
 
 -- The part that is asked for.

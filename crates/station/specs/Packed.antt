@@ -8,7 +8,6 @@ use Rattle.format.specs.Judged.{Judged, good, refused}
 use Rattle.format.specs.Find.{Wanted, theKey, theData, Part}
 use Rattle.format.specs.Walk.{Visited}
 use Rattle.format.specs.PairFind.{Paired, ofFirst, pairFind}
-use Rattle.reader.specs.declared.walk.Visited.{Visited as VisitedCode}
 
 -- An answer: bits 0 to 7 number, 16 to 31 place.
 unfoldable pub packedAnswer : Answer → ℕ
@@ -26,17 +25,6 @@ packedPart (refused a) = packedAnswer a
 -- The same of two tracks: bit 15 is 1 where it speaks of the second.
 unfoldable pub packedPaired : Paired → ℕ
 packedPaired p = p .which * 32768 + packedPart (p .outcome)
-
--- The candidate that a value of the code stands for.
-abbrev pub asVisited : VisitedCode → Visited
-asVisited v =
-    record {
-      place = v .place;
-      flag = v .flag;
-      number = v .number;
-      keyLength = v .«key_length»;
-      dataLength = v .«data_length»;
-    }
 
 -- A candidate: bits 8 to 15 flag, 16 to 31 place, 32 to 39 S, 40 to 47 KL, 48 to 63 DL.
 unfoldable pub packedVisited : Visited → ℕ

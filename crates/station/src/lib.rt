@@ -1,9 +1,9 @@
 // The C interface: plain numbers and byte slices in, one number of 64 bits out.
 ghost use mathlib.Core.Path.{_≡_};
 ghost use Prim.Native.Nat.{_≤_};
-ghost use Rattle.reader.specs.Finding.{asAnswer, asPart, judgedPart, judgedVisit};
+ghost use Rattle.reader.specs.Finding.{asAnswer, asVisited, asPart, judgedPart, judgedVisit};
 ghost use Rattle.reader.specs.Pairing.{asPaired};
-ghost use Rattle.station.specs.Packed.{packedAnswer, packedBounds, packedPart, packedPaired, asVisited, packedVisited, packedVisit};
+ghost use Rattle.station.specs.Packed.{packedAnswer, packedBounds, packedPart, packedPaired, packedVisited, packedVisit};
 
 pub mod reading;
 pub mod writing;

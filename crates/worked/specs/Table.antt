@@ -3,10 +3,10 @@ use mathlib.Core.Path.{_≡_}
 use Prim.Native.Nat.{ℕ}
 use mathlib.Core.Bool.{Bool, true, false, _&&_}
 use mathlib.Core.List.{List, [], _∷_}
-use lib.ListN.{replicate}
 use lib.Dec.{eqb}
 use Rattle.crc.specs.Check.{checkBytes}
 use Rattle.format.specs.Judged.{answerOf}
+use Rattle.format.specs.Address.{addressBytes}
 use Rattle.worked.specs.Tracks.{address, blankOf, twoSectors, acceptOf, numbers, placesOf, answerByHand, answerOfZeros}
 
 -- A row of the table.
@@ -34,8 +34,8 @@ EachHolds (x ∷ xs) = (x .computed ≡ x .stated) × EachHolds xs
 -- Numbers 1 to 4: checks. Number 5: the places of both sectors. Number 6: the largest data at L = 3,906, and one byte more.
 unfoldable pub starred : List Case
 starred =
-    record { computed = checkBytes (0x00 ∷ 0x00 ∷ 0x64 ∷ 0x00 ∷ 0x07 ∷ []); stated = 0xFF ∷ 0x9C ∷ [] }
-    ∷ record { computed = checkBytes (replicate 5 0x00); stated = 0xFF ∷ 0xFF ∷ [] }
+    record { computed = checkBytes (0x00 ∷ addressBytes (address 100 7)); stated = 0xFF ∷ 0x9C ∷ [] }
+    ∷ record { computed = checkBytes (0x00 ∷ addressBytes (address 0 0)); stated = 0xFF ∷ 0xFF ∷ [] }
     ∷ record { computed = checkBytes (0x80 ∷ 0x00 ∷ 0x64 ∷ 0x00 ∷ 0x07 ∷ 0x01 ∷ 0x00 ∷ 0x00 ∷ 0x50 ∷ []); stated = 0xFE ∷ 0x4C ∷ [] }
     ∷ record { computed = checkBytes (0x41 ∷ []); stated = 0xFF ∷ 0xBE ∷ [] }
     ∷ record { computed = checkBytes (0x41 ∷ 0x42 ∷ []); stated = 0xBE ∷ 0xBD ∷ [] }

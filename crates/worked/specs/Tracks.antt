@@ -1,8 +1,8 @@
 -- The tracks of the worked numbers, and what the table reads off them.
-use Prim.Native.Nat.{ℕ, zero, suc, _+_}
+use Prim.Native.Nat.{ℕ, _+_}
 use mathlib.Core.Bool.{Bool, true, false}
 use mathlib.Core.List.{List, [], _∷_, _++_}
-use lib.ListN.{length, take, drop, replicate}
+use lib.ListN.{length, drop, replicate}
 use Rattle.format.specs.Answer.{Answer}
 use Rattle.format.specs.Judged.{Judged, good, refused, then, answerOf}
 use Rattle.format.specs.Address.{Address, addressBytes}
