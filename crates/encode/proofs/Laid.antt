@@ -10,7 +10,7 @@ use lib.ListN.{length, take, drop, set, getD, replicate, length-replicate, lengt
 use lib.Seq.{take-suc, drop-drop, take-at, drop-at, set-split, length-take-le}
 use borrow.Rule.Slice.PartMut.{putMid, put-same}
 use Rattle.format.proofs.Lists.{part-all}
-pub use Rattle.format.proofs.Lists.{part-all as part-rest}
+use Rattle.format.proofs.Lists.{part-all as part-rest}
 use Rattle.encode.specs.Laid.{laidOver, laidAt, laidIf, laidAtIf}
 
 -- Laid at place 0 is laid over the front.

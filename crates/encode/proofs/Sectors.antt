@@ -11,17 +11,17 @@ use Rattle.format.specs.Lent.{bytesOf, marksOf, unmarked}
 use Rattle.format.specs.Opening.{closing}
 use Rattle.format.specs.Address.{addressBytes}
 use Rattle.format.specs.Sector.{Sector, openingLength}
-use Rattle.format.specs.Written.{homeGap, innerGap, countInfo, writtenBlock, writtenKey, writtenData, countOpening, writtenSector}
+use Rattle.format.specs.Written.{homeGap, innerGap, countInfo, writtenBlock, writtenKey, writtenData, countOpening, writtenSector, sectorSize}
 use Rattle.format.specs.Blank.{contentRight, writtenHead}
 use Rattle.format.proofs.Opening.{unmarked-append, unmarked-replicate}
 use Rattle.format.proofs.Field.{unmarked-block, length-closing}
 use Rattle.format.proofs.Standing.{FitsCount, info-unmarked}
 use Rattle.format.proofs.WrittenRest.{writtenRest, written-form, rest-unmarked, length-rest}
 use Rattle.format.proofs.ReadBack.{length-written}
-pub use Rattle.format.proofs.ReadBack.{length-written as sector-length}
+use Rattle.format.proofs.ReadBack.{length-written as sector-length}
 use Rattle.format.proofs.Pairs.{bytes-unmarked}
-pub use Rattle.format.proofs.WrittenHome.{head-length}
-use Rattle.encode.specs.Room.{addressOf, sectorSize, bothFit, sectorFits}
+use Rattle.format.proofs.WrittenHome.{head-length}
+use Rattle.encode.specs.Room.{addressOf, bothFit, sectorFits}
 use Rattle.encode.specs.Bytes.{countBytes}
 use Rattle.encode.proofs.Room.{and-right, both-fit}
 use Rattle.encode.proofs.Openings.{length-opening}

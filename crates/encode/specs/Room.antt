@@ -7,7 +7,6 @@ use lib.Dec.{leb}
 use Rattle.format.specs.Address.{Address}
 use Rattle.format.specs.Sector.{Sector}
 use Rattle.format.specs.Written.{writtenSector}
-unfoldable pub use Rattle.format.specs.Written.{sectorSize}
 use Rattle.format.specs.Blank.{contentRight}
 
 -- C and H as an address.

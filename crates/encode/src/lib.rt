@@ -7,10 +7,10 @@ ghost use Rattle.format.specs.Lent.{bytesOf, marksOf};
 ghost use Rattle.format.specs.Opening.{closing};
 ghost use Rattle.format.specs.Sector.{openingLength};
 ghost use Rattle.format.specs.Block.{keySize, dataSize};
-ghost use Rattle.format.specs.Written.{gapOne, innerGap, writtenBlock, writtenKey, writtenData, countOpening, writtenSector};
+ghost use Rattle.format.specs.Written.{gapOne, innerGap, writtenBlock, writtenKey, writtenData, countOpening, writtenSector, sectorSize};
 ghost use Rattle.format.specs.Blank.{writtenHead};
 ghost use Rattle.encode.specs.Laid.{laidOver, laidAt, laidIf, laidAtIf};
-ghost use Rattle.encode.specs.Room.{addressOf, sectorFrom, sectorSize, bothFit, sectorFits, headSize, gapFits};
+ghost use Rattle.encode.specs.Room.{addressOf, sectorFrom, bothFit, sectorFits, headSize, gapFits};
 ghost use Rattle.encode.specs.Bytes.{countBytes};
 
 // The gap after a data block by rule one.

@@ -14,7 +14,7 @@ use Rattle.format.specs.Home.{Home}
 use Rattle.format.specs.Span.{joined, none}
 use Rattle.format.specs.Sector.{Sector}
 use Rattle.format.specs.Accept.{Placed, acceptCells}
-use Rattle.format.specs.Written.{gapOne, gapAfter, writtenSector, asPair}
+use Rattle.format.specs.Written.{gapOne, gapAfter, writtenSector, asPair, sectorSize}
 use Rattle.format.specs.Blank.{contentRight}
 use Rattle.format.specs.Add.{endOf, fromNumber, judgeAbsent, addedFlag, addedSector, addedTo, addCells}
 use Rattle.format.proofs.Judged.{false-true}
@@ -24,7 +24,7 @@ use Rattle.format.proofs.NewSector.{addNeed, keptCells, length-kept, added-room
 use Rattle.sector.specs.declared.fields.Address.{Address as AddressCode}
 use Rattle.sector.specs.As.{asAddress}
 use Rattle.encode.specs.Laid.{laidOver, laidAt}
-use Rattle.encode.specs.Room.{sectorFrom, sectorSize}
+use Rattle.encode.specs.Room.{sectorFrom}
 use Rattle.encode.proofs.Cells.{bytes-append, marks-append}
 use Rattle.sectors.specs.declared.SectorAt.{SectorAt}
 use Rattle.sectors.specs.Stepped.{Stepped, steppedAt, addressAt, asStepped}

@@ -13,13 +13,13 @@ use Rattle.format.specs.Lent.{lengthRight, lentForWriting, bytesOf, marksOf}
 use Rattle.format.specs.Address.{Address, addressInRange, addressRight}
 use Rattle.format.specs.Block.{leastGap}
 use Rattle.format.specs.Sector.{Sector}
-use Rattle.format.specs.Written.{writtenSector, reach, writtenSpans, writtenBehind, asPair}
+use Rattle.format.specs.Written.{writtenSector, reach, writtenSpans, writtenBehind, asPair, sectorSize}
 use Rattle.format.specs.Blank.{contentRight, namedBy, blankRight, writtenHead, blankSector, blank}
 use Rattle.format.proofs.Judged.{and-both}
 use Rattle.format.proofs.Pairs.{pairOf, length-bytes, length-marks}
 use Rattle.encode.specs.Laid.{laidOver, laidAt}
-use Rattle.encode.specs.Room.{sectorSize}
-use Rattle.encode.proofs.Sectors.{sector-length, head-length}
+use Rattle.format.proofs.ReadBack.{length-written}
+use Rattle.format.proofs.WrittenHome.{head-length}
 use Rattle.encode.proofs.Cells.{bytes-append, marks-append}
 use Rattle.writer.specs.After.{filledSpan}
 use Rattle.writer.proofs.Filled.{content-bounds, laid-to-end, take-over, filled-length}
@@ -59,7 +59,7 @@ module _ (l k : ℕ) (own : Address) (flag : ℕ) (partner : Address) (s : ℕ) 
 
     size-is : length (writtenSector sector0) ≡ sectorSize true (length key) (length body)
     unfolding blankSector
-    size-is = sector-length sector0
+    size-is = length-written sector0
 
     -- 15 where the block would end later than 13 bytes before index.
     pub blank-short : l < 55 + sectorSize true (length key) (length body) + 13 → blank l k own flag partner s key body ≡ refused roomMissing

@@ -16,7 +16,7 @@ use Rattle.format.specs.Block.{leastGap}
 use Rattle.format.specs.Span.{none}
 use Rattle.format.specs.Sector.{Sector}
 use Rattle.format.specs.Accept.{Placed, acceptCells}
-use Rattle.format.specs.Written.{gapOne, gapAfter, writtenSector, reach, writtenBehind, asPair}
+use Rattle.format.specs.Written.{gapOne, gapAfter, writtenSector, reach, writtenBehind, asPair, sectorSize}
 use Rattle.format.specs.Blank.{contentRight}
 use Rattle.format.specs.Add.{fromNumber}
 use Rattle.format.specs.Correct.{withContent, sectorsOf, rewrittenFrom, correctCells}
@@ -25,9 +25,9 @@ use Rattle.format.proofs.Pairs.{pairOf, accepted-pair, bytes-cells, marks-cells
 use Rattle.sector.specs.declared.fields.Address.{Address as AddressCode}
 use Rattle.sector.specs.As.{asAddress}
 use Rattle.encode.specs.Laid.{laidOver, laidAt}
-use Rattle.encode.specs.Room.{sectorFrom, sectorSize}
+use Rattle.encode.specs.Room.{sectorFrom}
 use Rattle.encode.proofs.Cells.{bytes-append, marks-append}
-use Rattle.encode.proofs.Sectors.{sector-length}
+use Rattle.format.proofs.ReadBack.{length-written}
 use Rattle.sectors.specs.declared.SectorAt.{SectorAt}
 use Rattle.sectors.specs.Stepped.{Stepped, steppedAt, addressAt, asStepped}
 use Rattle.sectors.proofs.From.{SectorsFrom, step-at, steps-end, accepted-start}
@@ -135,7 +135,7 @@ module _ (t m : List ℕ) (q : ℕ) (first : Bool) (x : Placed) (xs : List Place
     -- What it takes with the new key and data.
     pub size-new : length (writtenSector new) ≡ sectorSize first (length key) (length body)
     unfolding withContent
-    size-new = sector-length new ∙ ap (λ (b : Bool). sectorSize b (length key) (length body)) (f .0 .first-is)
+    size-new = length-written new ∙ ap (λ (b : Bool). sectorSize b (length key) (length body)) (f .0 .first-is)
 
     -- And its gap.
     pub gap-new : gapAfter gapOne new ≡ gapOne (length key) (length body)

@@ -9,11 +9,10 @@ use Rattle.format.specs.Lent.{cells}
 use Rattle.format.specs.Block.{keySize, dataSize}
 use Rattle.format.specs.Sector.{Sector, openingLength}
 use Rattle.format.specs.Accept.{Placed}
-use Rattle.format.specs.Written.{gapOne, gapAfter, writtenSector, reach}
+use Rattle.format.specs.Written.{gapOne, gapAfter, writtenSector, reach, sectorSize}
 use Rattle.format.specs.Correct.{sectorsOf}
 use Rattle.format.proofs.Sizes.{key-size-least, data-size-least}
-use Rattle.encode.specs.Room.{sectorSize}
-use Rattle.encode.proofs.Sectors.{sector-length}
+use Rattle.format.proofs.ReadBack.{length-written}
 use Rattle.sectors.specs.declared.SectorAt.{SectorAt}
 use Rattle.sectors.specs.Stepped.{steppedAt, asStepped}
 use Rattle.sectors.proofs.Rest.{opening-least}
@@ -49,7 +48,7 @@ module _ (t m : List ℕ) (p : ℕ) (first : Bool) (xs : List Placed) (s : Secto
   -- The written sector takes what the numbers read say.
   pub size-stepped : length (writtenSector (v .x .sector)) ≡ sectorSize first (s .«key_length») (s .«data_length»)
   size-stepped =
-      sector-length (v .x .sector)
+      length-written (v .x .sector)
       ∙ ap (λ (b : Bool). sectorSize b (length (v .x .sector .keyBytes)) (length (v .x .sector .dataBytes))) (v .first-is)
       ∙ ap₂ (sectorSize first) (sym (v .key-length-is)) (sym (v .data-length-is))
 

@@ -12,20 +12,20 @@ use borrow.Rule.Slice.PartMut.{putMid}
 use Rattle.format.specs.Lent.{bytesOf, marksOf}
 use Rattle.format.specs.Block.{keySize, dataSize}
 use Rattle.format.specs.Sector.{Sector, openingLength}
-use Rattle.format.specs.Written.{writtenSector}
+use Rattle.format.specs.Written.{writtenSector, sectorSize}
 use Rattle.format.specs.Blank.{contentRight}
 use Rattle.format.proofs.Judged.{cases, and-both}
 use Rattle.format.proofs.Opening.{unmarked-replicate}
-use Rattle.format.proofs.Pairs.{length-bytes, length-marks}
+use Rattle.format.proofs.Pairs.{length-bytes, length-marks, bytes-unmarked}
 use Rattle.encode.specs.Laid.{laidOver, laidAt, laidIf, laidAtIf}
-use Rattle.encode.specs.Room.{sectorSize}
-use Rattle.encode.proofs.Laid.{laid-behind, laid-back-if, part-rest}
-use Rattle.encode.proofs.Cells.{bytes-append, marks-append, bytes-unmarked, marks-unmarked}
+use Rattle.format.proofs.Lists.{part-all}
+use Rattle.encode.proofs.Laid.{laid-behind, laid-back-if}
+use Rattle.encode.proofs.Cells.{bytes-append, marks-append, marks-unmarked}
 use Rattle.writer.specs.After.{filledSpan}
 
 -- A part that is lent from place a on has what is left behind a.
 pub part-length : (a : ℕ) (s : List ℕ) → length (take (length s - a) (drop a s)) ≡ length s - a
-part-length a s = ap length (part-rest a s) ∙ length-drop a s
+part-length a s = ap length (part-all a s) ∙ length-drop a s
 
 -- A writer that answered true laid its list,
 pub wrote-over : (r : Bool) (xs old ys : List ℕ) → r ≡ true → ys ≡ laidIf r xs old → ys ≡ laidOver xs old

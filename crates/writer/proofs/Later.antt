@@ -11,13 +11,13 @@ use Rattle.format.specs.Lent.{cells, bytesOf, marksOf}
 use Rattle.format.specs.Span.{joined, none}
 use Rattle.format.specs.Sector.{Sector}
 use Rattle.format.specs.Accept.{Placed}
-use Rattle.format.specs.Written.{gapOne, gapAfter, writtenSector, reach, writtenSpans}
+use Rattle.format.specs.Written.{gapOne, gapAfter, writtenSector, reach, writtenSpans, sectorSize}
 use Rattle.format.specs.Correct.{sectorsOf}
 use Rattle.format.proofs.Pairs.{length-bytes, length-marks}
 use Rattle.sector.specs.declared.fields.Address.{Address as AddressCode}
 use Rattle.sector.specs.As.{asAddress}
 use Rattle.encode.specs.Laid.{laidAt}
-use Rattle.encode.specs.Room.{sectorFrom, sectorSize}
+use Rattle.encode.specs.Room.{sectorFrom}
 use Rattle.encode.proofs.Cells.{bytes-append, marks-append}
 use Rattle.sectors.specs.declared.SectorAt.{SectorAt}
 use Rattle.sectors.specs.Stepped.{steppedAt, addressAt, asStepped}

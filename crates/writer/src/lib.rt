@@ -10,12 +10,12 @@ ghost use Rattle.format.specs.Answer.{answerAt, done, roomMissing};
 ghost use Rattle.format.specs.Lent.{bytesOf, marksOf};
 ghost use Rattle.format.specs.Block.{leastGap};
 ghost use Rattle.format.specs.Accept.{Placed};
-ghost use Rattle.format.specs.Written.{gapOne};
+ghost use Rattle.format.specs.Written.{gapOne, sectorSize};
 ghost use Rattle.format.specs.Blank.{contentRight};
 ghost use Rattle.format.specs.Add.{bothLent, fromNumber};
 ghost use Rattle.sectors.proofs.From.{SectorsFrom};
 ghost use Rattle.encode.specs.Laid.{laidOver, laidAt};
-ghost use Rattle.encode.specs.Room.{sectorFrom, sectorSize};
+ghost use Rattle.encode.specs.Room.{sectorFrom};
 ghost use Rattle.writer.specs.After.{filledSpan};
 ghost use Rattle.writer.specs.Remaining.{Remaining};
 

@@ -8,10 +8,10 @@ use lib.ListN.{length, length-append}
 use borrow.Author.Needs.{needs}
 use Rattle.format.specs.Lent.{bytesOf, unmarked}
 use Rattle.format.specs.Sector.{Sector}
-use Rattle.format.specs.Written.{innerGap, writtenKey, writtenData, writtenSector}
+use Rattle.format.specs.Written.{innerGap, writtenKey, writtenData, writtenSector, sectorSize}
 use Rattle.format.proofs.Field.{length-key}
 use Rattle.format.proofs.Standing.{FitsCount}
-use Rattle.encode.specs.Room.{sectorFrom, sectorSize}
+use Rattle.encode.specs.Room.{sectorFrom}
 use Rattle.encode.specs.Bytes.{countBytes}
 use Rattle.encode.proofs.Laid.{laid-as, laid-next}
 use Rattle.format.proofs.Opening.{unmarked-below}

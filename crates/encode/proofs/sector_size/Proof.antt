@@ -1,6 +1,6 @@
 -- `sector_size` meets its contract.
 use borrow.Author.Needs.{needs}
-use Rattle.encode.specs.Room.{sectorSize}
+use Rattle.format.specs.Written.{sectorSize}
 use Rattle.encode.proofs.sector_size.Statement.{statement}
 use Rattle.encode.proofs.sector_size.Tie as tie
 

@@ -6,9 +6,9 @@ use lib.ListN.{length}
 use borrow.Author.Needs.{needs}
 use Rattle.format.specs.Lent.{marksOf, unmarked}
 use Rattle.format.specs.Sector.{Sector}
-use Rattle.format.specs.Written.{writtenSector}
+use Rattle.format.specs.Written.{writtenSector, sectorSize}
 use Rattle.format.proofs.Standing.{FitsCount}
-use Rattle.encode.specs.Room.{sectorFrom, sectorSize}
+use Rattle.encode.specs.Room.{sectorFrom}
 use Rattle.encode.proofs.Laid.{laid-as}
 use Rattle.encode.proofs.Room.{first-short, second-short}
 use Rattle.format.proofs.Opening.{unmarked-below}

@@ -15,7 +15,8 @@ use Rattle.encode.specs.Laid.{laidAt}
 use Rattle.encode.specs.Room.{sectorFrom}
 use Rattle.encode.proofs.Laid.{length-laid}
 use Rattle.encode.proofs.Room.{gap-fits}
-use Rattle.encode.proofs.Sectors.{sector-length, sector-fits}
+use Rattle.format.proofs.ReadBack.{length-written}
+use Rattle.encode.proofs.Sectors.{sector-fits}
 use Rattle.writer.proofs.Filled.{part-length, wrote-at, wrote-back, span-bytes, span-marks}
 use Rattle.writer.proofs.put_span.Statement.{statement}
 use Rattle.writer.proofs.put_span.Tie as tie
@@ -69,7 +70,7 @@ returns c =
     let two = c .before .before .before .before .fill-gap in
     let S : Sector = sectorFrom (a .first) (a .flag) (a .a .cylinder) (a .a .head) (a .s) (a .key .now) (a .body .now) in
     let n = c .before .before .before .before .before .before .before .sector-size .result in
-    let size : n ≡ length (writtenSector S) = c .before .before .before .before .before .before .before .sector-size .ensures ∙ sym (sector-length S) in
+    let size : n ≡ length (writtenSector S) = c .before .before .before .before .before .before .before .sector-size .ensures ∙ sym (length-written S) in
     let pre = c .before .before .before .before .before .before .before .before .before .before .before .before .before .before .before .before .before .before .before .pre in
     let T = a .track .now in
     let M = a .marks .now in

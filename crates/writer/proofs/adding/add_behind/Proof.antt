@@ -12,7 +12,7 @@ use Rattle.format.specs.Written.{gapOne}
 use Rattle.format.specs.Add.{addedFlag, addedSector}
 use Rattle.format.proofs.GrownSpans.{lastOf}
 use Rattle.encode.specs.Room.{sectorFrom}
-use Rattle.encode.proofs.Cells.{unmarked-bytes}
+use Rattle.format.proofs.Opening.{unmarked-below}
 use Rattle.sectors.proofs.From.{SectorsFrom}
 use Rattle.writer.specs.After.{filledSpan}
 use Rattle.writer.proofs.Outcome.{after-refused, after-good, room-done, room-short}
@@ -175,7 +175,7 @@ returns c =
     added-made t m p (eqb p (a .start)) y f h (suc (0 + length (z .xs))) (ad .result) (c .before .before .before .before .before .before .before .added-flag .result) (a .b7) (a .s) (a .key .now) (a .body .now) (ad .ensures) flag in
     let W : ℕ → Sector → List ℕ = λ l n. replicate (to - end) 0xFF ++ filledSpan (l - to) n in
     let same = ap₂ W (sym (u .cells-length)) made in
-    let bytes : unmarked t ≡ true = unmarked-bytes t (λ i. omega (arith, c .before .before .before .before .before .before .before .before .before .before .before .before .before .before .before .before .before .before .before .before .before .before .before .shared-slice-known .given i)) in
+    let bytes : unmarked t ≡ true = unmarked-below t (λ i. omega (arith, c .before .before .before .before .before .before .before .before .before .before .before .before .before .before .before .before .before .before .before .before .before .before .before .shared-slice-known .given i)) in
     after-good _ _ _ (a .out .now) (a .out-marks .now) (wrote .last .1 .1 .0) (wrote .last .1 .1 .1 .0)
     (add-done t m (a .start) r (a .b7) (a .s) (a .key .now) (a .body .now) (c .before .before .before .before .before .before .before .before .before .before .before .before .before .before .before .before .before .before .before .before .before .before .before .before .pre .1 .0 .0) (c .before .before .before .before .before .before .before .before .before .before .before .before .before .before .before .before .before .before .before .before .before .before .before .before .pre .1 .0 .1) (c .before .before .before .before .before .before .before .before .before .before .before .before .before .before .before .before .before .before .before .before .before .before .before .before .pre .0 .absent) (z .x) (z .xs) (z .all) (x .result .end) (x .result .end + c .before .before .before .before .before .before .before .before .before .before .before .before .before .gap-one .result)
     (last-end t m p (eqb p (a .start)) y f (x .result) (x .ensures)) (ap (λ (n : ℕ). x .result .end + n) (c .before .before .before .before .before .before .before .before .before .before .before .before .before .gap-one .ensures ∙ last-gap t m p (eqb p (a .start)) y f (x .result) (x .ensures))) (omega (arith, last-inside t m p (eqb p (a .start)) y f (x .result) (x .ensures)))

@@ -9,7 +9,7 @@ use Rattle.format.specs.Sector.{Sector}
 use Rattle.format.specs.Written.{writtenSector}
 use Rattle.encode.specs.Room.{sectorFrom}
 use Rattle.encode.proofs.Room.{gap-fits}
-use Rattle.encode.proofs.Sectors.{sector-length}
+use Rattle.format.proofs.ReadBack.{length-written}
 use Rattle.writer.proofs.Filled.{wrote-at}
 use Rattle.writer.proofs.Added.{added-bytes, added-marks}
 use borrow.Author.Needs.{needs}
@@ -46,7 +46,7 @@ returns c =
     let M1 = one .last .1 .1 .1 .0 in
     let longT : length T1 ≡ length t = one .kept .1 .1 .0 ∙ long .1 in
     let longM : length M1 ≡ length t = one .kept .1 .1 .1 .0 ∙ long .2 in
-    let size = sector-length S in
+    let size = length-written S in
     let low : a .end ≤ length t = omega (arith, pre .1 .0) in
     let room : a .to + length (writtenSector S) ≤ length t = omega (arith, pre .1 .0, size) in
     let filled : two .result ≡ true = two .ensures .0 ∙ gap-fits (a .end) (a .to) (length T1) (length M1) (pre .1 .0 .0) (omega (arith, pre .1 .0, longT)) (omega (arith, pre .1 .0, longM)) in (

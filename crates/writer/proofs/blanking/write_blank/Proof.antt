@@ -10,7 +10,7 @@ use Rattle.format.specs.Blank.{blankSector}
 use Rattle.sector.specs.As.{asAddress}
 use Rattle.encode.specs.Room.{headSize}
 use Rattle.encode.proofs.Room.{both-fit}
-use Rattle.encode.proofs.Sectors.{sector-length}
+use Rattle.format.proofs.ReadBack.{length-written}
 use Rattle.writer.proofs.Filled.{wrote-over}
 use Rattle.writer.proofs.Blanked.{blank-bytes, blank-marks}
 use borrow.Author.Needs.{needs}
@@ -42,7 +42,7 @@ returns c =
     let S : Sector = blankSector (a .flag) (asAddress (a .named)) (a .s) (a .key .now) (a .body .now) in
     let T1 = one .last .0 in
     let M1 = one .last .1 .0 in
-    let size = sector-length S in
+    let size = length-written S in
     let wrote : one .result ≡ true = one .ensures .0 ∙ both-fit headSize (length (a .track .now)) (length (a .marks .now)) (omega (arith, pre)) (omega (arith, pre)) in
     let longT : length T1 ≡ length (a .track .now) = one .kept .0 in
     let longM : length M1 ≡ length (a .track .now) = one .kept .1 .0 ∙ pre .1 .1 in

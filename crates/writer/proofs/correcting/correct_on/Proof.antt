@@ -10,7 +10,7 @@ use borrow.Author.Needs.{needs}
 use borrow.Author.Tests.{not-true, not-false}
 use Rattle.format.specs.Lent.{cells, unmarked}
 use Rattle.format.specs.Accept.{Placed}
-use Rattle.encode.proofs.Cells.{unmarked-bytes}
+use Rattle.format.proofs.Opening.{unmarked-below}
 use Rattle.sectors.proofs.From.{SectorsFrom}
 use Rattle.writer.specs.Remaining.{correctedEnd, correctedCells}
 use Rattle.writer.proofs.Outcome.{after-refused, after-good, room-done, room-short}
@@ -105,7 +105,7 @@ returns-3 c =
     let judged = c .before .before .before .before .before .before .before .before .before .judge-room in
     let fits = room-done (judged .result .number) (judged .result .place) (c .before .before .before .before .before .before .before .before .before .before .corrected-end .result) (length t) (judged .ensures) (c .before .before .before .before .before .before .before .if3 .taken) in
     let W : ℕ → List ℕ = λ l. correctedCells l q (a .key .now) (a .body .now) (z .sector) (z .later) in
-    let bytes : unmarked t ≡ true = unmarked-bytes t (λ i. omega (arith, c .before .before .before .before .before .before .before .before .before .before .before .before .before .before .before .before .before .before .before .before .shared-slice-known .given i)) in
+    let bytes : unmarked t ≡ true = unmarked-below t (λ i. omega (arith, c .before .before .before .before .before .before .before .before .before .before .before .before .before .before .before .before .before .before .before .before .shared-slice-known .given i)) in
     after-good _ _ (take q (cells t m) ++ W (length (cells t m))) (a .out .now) (a .out-marks .now) (wrote .last .1 .1 .0) (wrote .last .1 .1 .1 .0)
     (correct-done t m (a .start) r (a .s) (a .key .now) (a .body .now) (sym (c .before .before .before .before .before .before .before .before .before .before .before .before .before .before .content-right .ensures) ∙ not-false _ (c .before .before .before .before .before .before .before .before .before .before .before .before .before .if1 .left))
     (z .sector) (z .later) (z .split) q (z .place-is) (omega (arith, c .before .before .before .before .before .before .before .before .before .before .before .if2 .left, u .cells-length)) (omega (arith, fits .0, end, u .cells-length)))
