@@ -45,7 +45,7 @@ pub fn rest_of<'a>(track: &'a [u8], x: Candidate) -> &'a [u8]
 }
 
 // Whether sector 0's count opens at place p, 11 bytes after a home that opens.
-pub fn first_opens_at(track: &[u8], marks: &[u8], home: search::Found, p: usize) -> bool
+fn first_opens_at(track: &[u8], marks: &[u8], home: search::Found, p: usize) -> bool
     ensures { λ r. ⌜ r ≡ firstOpensAt (judgedPlace home) p (drop p (cells (now (track .entry)) (now (marks .entry)))) ⌝ }
 {
     match home {
@@ -90,7 +90,7 @@ fn passing_at(track: &[u8], marks: &[u8], first: bool, p: usize) -> Standing
 }
 
 // The candidate at place p, if one stands there: a count is looked at only where it opens.
-pub fn stands_at(track: &[u8], marks: &[u8], home: search::Found, p: usize) -> Standing
+fn stands_at(track: &[u8], marks: &[u8], home: search::Found, p: usize) -> Standing
     ensures { λ r. ⌜ standing (now (track .entry)) r ≡ standingAt (judgedPlace home) p (drop p (cells (now (track .entry)) (now (marks .entry)))) ⌝ }
 {
     if first_opens_at(track, marks, home, p) {

@@ -4,12 +4,6 @@ pub mod finding;
 pub mod pair;
 pub mod walk;
 
-pub use candidate::Candidate;
-pub use candidate::Standing;
-pub use candidate::first_opens_at;
-pub use candidate::next_candidate;
-pub use candidate::rest_of;
-pub use candidate::stands_at;
 pub use finding::Outcome;
 pub use finding::Part;
 pub use finding::Wanted;

@@ -22,7 +22,7 @@ const MARKED: [u8; 8] = [0x00, 0x00, 0x00, 0x00, 0xFF, 0xFF, 0xFF, 0x0E];
 const MARKED_MARKS: [u8; 8] = [0, 0, 0, 0, 0, 1, 1, 0];
 
 // Whether L is in range, 3,815 to 4,002.
-pub fn length_right(l: usize) -> bool
+fn length_right(l: usize) -> bool
     ensures { λ r. ⌜ r ≡ lengthRight l ⌝ }
 {
     if l < 3815 {
@@ -77,7 +77,7 @@ pub fn cell_count(track: &[u8], marks: &[u8]) -> usize
 }
 
 // How many cells a pair has from place p on.
-pub fn cells_from(track: &[u8], marks: &[u8], p: usize) -> usize
+fn cells_from(track: &[u8], marks: &[u8], p: usize) -> usize
     ensures { λ r. ⌜ r ≡ length (drop p (cells (now (track .entry)) (now (marks .entry)))) ⌝ }
     ensures { λ r. ⌜ (r ≤ length (now (track .entry)) - p) × (r ≤ length (now (marks .entry)) - p) ⌝ }
 {
@@ -155,7 +155,7 @@ pub fn find_home(track: &[u8], marks: &[u8]) -> Found
 }
 
 // How many cells stand from place p on before the first marked one.
-pub fn unmarked_run(track: &[u8], marks: &[u8], p: usize) -> usize
+fn unmarked_run(track: &[u8], marks: &[u8], p: usize) -> usize
     ensures { λ r. ⌜ r ≡ unmarkedRun (drop p (cells (now (track .entry)) (now (marks .entry)))) ⌝ }
 {
     let left = cells_from(track, marks, p);

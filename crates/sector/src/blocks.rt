@@ -32,7 +32,7 @@ pub fn block_end(r: &[u8]) -> usize
 }
 
 // The least gap after the block: 13 where the span runs to index, else 21.
-pub fn least_gap(last: bool) -> usize
+fn least_gap(last: bool) -> usize
     ensures { λ n. ⌜ n ≡ leastGap last ⌝ }
 {
     if last { 13 } else { 21 }
@@ -46,7 +46,7 @@ pub fn blocks_fit(last: bool, r: &[u8]) -> bool
 }
 
 // Whether a block of n information bytes stands here: opening, information, check and closing byte.
-pub fn block_right(n: usize, c: &[u8]) -> bool
+fn block_right(n: usize, c: &[u8]) -> bool
     ensures { λ b. ⌜ b ≡ blockRight n (now (c .entry)) ⌝ }
 {
     if starts_plain(c) {

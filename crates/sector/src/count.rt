@@ -46,7 +46,7 @@ pub fn data_length(r: &[u8]) -> usize
 }
 
 // Whether C and H of a count keep their rule: sector 0's by the flag of home, a later one's as sector 0's.
-pub fn count_address_right(h: Home, x: Named, a: Address) -> bool
+fn count_address_right(h: Home, x: Named, a: Address) -> bool
     ensures { λ b. ⌜ b ≡ countAddressRight (asHome h) (asSettled x) (asAddress a) ⌝ }
 {
     let own = h.address;

@@ -36,7 +36,7 @@ pub fn address_in(xs: &[u8]) -> Address
 }
 
 // Whether the flag of home keeps its rule: B8, B7 and B6 to B3 are zero.
-pub fn home_flag_right(f: u8) -> bool
+fn home_flag_right(f: u8) -> bool
     ensures { λ b. ⌜ b ≡ homeFlagRight f ⌝ }
 {
     if f / 128 != 0 {
@@ -49,7 +49,7 @@ pub fn home_flag_right(f: u8) -> bool
 }
 
 // Whether B8 and B7 keep the rule of position i: B8 alternates from 0 in sector 0, whose B7 is 0.
-pub fn sequence_right(i: usize, f: u8) -> bool
+fn sequence_right(i: usize, f: u8) -> bool
     ensures { λ b. ⌜ b ≡ sequenceRight i f ⌝ }
 {
     if (f / 128) as usize != i % 2 {

@@ -12,21 +12,16 @@ pub mod fields;
 
 pub use blocks::KEY_OFFSET;
 pub use blocks::block_end;
-pub use blocks::block_right;
 pub use blocks::blocks_fit;
 pub use blocks::data_offset;
 pub use blocks::data_right;
 pub use blocks::key_right;
-pub use blocks::least_gap;
 pub use bytes::byte_at;
 pub use bytes::closed_after;
-pub use bytes::starts_empty;
-pub use bytes::starts_plain;
 pub use count::Named;
-pub use count::count_address_right;
 pub use count::count_closed;
-pub use count::count_fields_right;
-pub use count::count_fits;
+use count::count_fields_right;
+use count::count_fits;
 pub use count::data_length;
 pub use count::key_length;
 pub use fields::Address;
@@ -34,12 +29,8 @@ pub use fields::Home;
 pub use fields::address_in;
 pub use fields::address_in_range;
 pub use fields::address_right;
-pub use fields::count_flag_right;
 pub use fields::home_fields_right;
-pub use fields::home_flag_right;
 pub use fields::names_itself;
-pub use fields::same_address;
-pub use fields::sequence_right;
 
 // The answer for the count at p, in position i: 9 where it does not fit its span, then 7, then 8.
 pub fn judge_count(h: Home, i: usize, x: Named, p: usize, r: &[u8]) -> format::Answer

@@ -1,11 +1,19 @@
 // Copies the records of a track out, sound or damaged. The track is given on standard input, its bytes and behind them as many marks. Writes a line for each S that Find
 // does not answer 12 for: S, the key and the data in hexadecimal, `-` for an empty one and `!` with the answer's number for a refused one; then `ended`.
 use libc::STDIN_FILENO;
-use printing::field;
-use printing::hexadecimal;
-use printing::text;
+use libc::STDOUT_FILENO;
 use reader::Outcome;
 use reader::Wanted;
+
+// Writes bytes in hexadecimal, or `-` where there are none.
+fn write_bytes(bytes: &[u8]) {
+    if bytes.len() == 0 {
+        io::write_all(STDOUT_FILENO, b"-");
+    }
+    for i in 0..bytes.len() {
+        io::print_hex(STDOUT_FILENO, bytes[i] as u64, 2);
+    }
+}
 
 // The number of the answer to a part asked for.
 fn number_of(outcome: Outcome) -> u8 {
@@ -19,12 +27,12 @@ fn number_of(outcome: Outcome) -> u8 {
 fn write_part(track: &[u8], marks: &[u8], s: u8, wanted: Wanted, end: &[u8]) {
     let number = number_of(reader::find_part(track, marks, s, wanted));
     if number == 0 {
-        hexadecimal(reader::find(track, marks, s, wanted));
+        write_bytes(reader::find(track, marks, s, wanted));
     } else {
-        text(b"!");
-        printing::decimal(number as u64);
+        io::write_all(STDOUT_FILENO, b"!");
+        io::print_decimal(STDOUT_FILENO, number as u64);
     }
-    text(end);
+    io::write_all(STDOUT_FILENO, end);
 }
 
 // Writes the record of sector S, unless no candidate carries S.
@@ -33,7 +41,8 @@ fn write_record(track: &[u8], marks: &[u8], number: usize) {
     if number_of(reader::find_part(track, marks, s, Wanted::TheKey)) == 12 {
         return;
     }
-    field(s as u64);
+    io::print_decimal(STDOUT_FILENO, s as u64);
+    io::write_all(STDOUT_FILENO, b" ");
     write_part(track, marks, s, Wanted::TheKey, b" ");
     write_part(track, marks, s, Wanted::TheData, b"\n");
 }
@@ -49,9 +58,9 @@ fn write_records(track: &[u8], marks: &[u8]) {
 fn dump(track: &[u8], marks: &[u8]) {
     if search::lent_for_reading(track, marks) {
         write_records(track, marks);
-        text(b"ended\n");
+        io::write_all(STDOUT_FILENO, b"ended\n");
     } else {
-        text(b"refused 1\n");
+        io::write_all(STDOUT_FILENO, b"refused 1\n");
     }
 }
 

@@ -1,30 +1,41 @@
 // Lists a track that is given on standard input, its bytes and behind them as many marks: writes the track's address and flag and a line for each sector.
 use libc::STDIN_FILENO;
-use printing::field;
-use printing::last;
+use libc::STDOUT_FILENO;
 use sector::Home;
+
+// Writes a number and a space.
+fn write_field(n: u64) {
+    io::print_decimal(STDOUT_FILENO, n);
+    io::write_all(STDOUT_FILENO, b" ");
+}
+
+// Writes a number and ends the line.
+fn write_last(n: u64) {
+    io::print_decimal(STDOUT_FILENO, n);
+    io::write_all(STDOUT_FILENO, b"\n");
+}
 
 // Writes that the input is refused, with the answer's number.
 fn write_refused(number: u8) {
-    printing::text(b"refused ");
-    last(number as u64);
+    io::write_all(STDOUT_FILENO, b"refused ");
+    write_last(number as u64);
 }
 
 // Writes cylinder, head and flag of the track.
 fn write_home(h: Home) {
     let address = h.address;
-    field(address.cylinder as u64);
-    field(address.head as u64);
-    last(h.flag as u64);
+    write_field(address.cylinder as u64);
+    write_field(address.head as u64);
+    write_last(h.flag as u64);
 }
 
 // Writes S, flag, KL, DL and the data's place of a sector.
 fn write_sector(x: listing::Sector) {
-    field(x.number as u64);
-    field(x.flag as u64);
-    field(x.key_length as u64);
-    field(x.data_length as u64);
-    last(x.data_place as u64);
+    write_field(x.number as u64);
+    write_field(x.flag as u64);
+    write_field(x.key_length as u64);
+    write_field(x.data_length as u64);
+    write_last(x.data_place as u64);
 }
 
 // Writes a line for each sector of the track, from left to right.

@@ -1,34 +1,46 @@
-// Finds a record on a track or on the alternative that it names: `trackpair FIRST SECOND S`. Each file has L track bytes and then L marks. Writes a line for the key and
-// one for the data: the track that the answer speaks of (1 or 2), its number and place, and the information in hexadecimal, `-` where there is none.
+// Finds a record on a track or on the alternative that it names: `trackpair FIRST SECOND S`. Each file has a track's bytes and behind them as many marks. Writes two lines
+// for the key and two for the data: the track that the answer speaks of (1 or 2), its number and place and the part's length; and then the part itself.
 ghost use Prim.Native.Nat.{_≤_};
 use libc::STDERR_FILENO;
-use printing::field;
-use printing::hexadecimal;
-use printing::text;
+use libc::STDOUT_FILENO;
 use reader::Outcome;
 use reader::Wanted;
+
+// Writes a number and a space.
+fn write_field(n: u64) {
+    io::print_decimal(STDOUT_FILENO, n);
+    io::write_all(STDOUT_FILENO, b" ");
+}
 
 // Writes which track an answer speaks of, its number and its place.
 fn write_answer(found: reader::Paired) {
     if found.second {
-        field(2);
+        write_field(2);
     } else {
-        field(1);
+        write_field(1);
     }
     let outcome = found.outcome;
     match outcome {
         Outcome::Found(_) => {
-            field(0);
-            field(0);
+            write_field(0);
+            write_field(0);
         }
         Outcome::Refused(a) => {
-            field(a.number as u64);
-            field(a.place as u64);
+            write_field(a.number as u64);
+            write_field(a.place as u64);
         }
     }
 }
 
-// Writes the line of the part asked for.
+// Writes a part: its length, and on a line of its own its bytes as they are.
+fn write_bytes(bytes: &[u8]) {
+    io::print_decimal(STDOUT_FILENO, bytes.len() as u64);
+    io::write_all(STDOUT_FILENO, b"\n");
+    io::write_all(STDOUT_FILENO, bytes);
+    io::write_all(STDOUT_FILENO, b"\n");
+}
+
+// Writes the answer to the part asked for, and the part.
 fn write_part<'a>(first: &'a [u8], second: &'a [u8], s: u8, wanted: Wanted) {
     let half = first.len() / 2;
     let other = second.len() / 2;
@@ -37,15 +49,14 @@ fn write_part<'a>(first: &'a [u8], second: &'a [u8], s: u8, wanted: Wanted) {
     let alternative = &second[0..other];
     let other_marks = &second[other..];
     write_answer(reader::pair_find_part(track, marks, alternative, other_marks, s, wanted));
-    hexadecimal(reader::pair_find(track, marks, alternative, other_marks, s, wanted));
-    text(b"\n");
+    write_bytes(reader::pair_find(track, marks, alternative, other_marks, s, wanted));
 }
 
 // Writes the lines of the record S of both files' bytes.
 fn write_record<'a>(first: &'a [u8], second: &'a [u8], s: u8) {
-    text(b"key ");
+    io::write_all(STDOUT_FILENO, b"key ");
     write_part(first, second, s, Wanted::TheKey);
-    text(b"data ");
+    io::write_all(STDOUT_FILENO, b"data ");
     write_part(first, second, s, Wanted::TheData);
 }
 

@@ -1,22 +1,33 @@
 // Walks over a track, sound or damaged, that is given on standard input, its bytes and behind them as many marks: writes place, flag, S, KL and DL of each
 // count that can be read, from left to right, and then the number of the answer that ends the walk.
 use libc::STDIN_FILENO;
-use printing::field;
-use printing::last;
+use libc::STDOUT_FILENO;
+
+// Writes a number and a space.
+fn write_field(n: u64) {
+    io::print_decimal(STDOUT_FILENO, n);
+    io::write_all(STDOUT_FILENO, b" ");
+}
+
+// Writes a number and ends the line.
+fn write_last(n: u64) {
+    io::print_decimal(STDOUT_FILENO, n);
+    io::write_all(STDOUT_FILENO, b"\n");
+}
 
 // Writes the answer that ends the walk.
 fn write_ended(number: u8) {
-    printing::text(b"ended ");
-    last(number as u64);
+    io::write_all(STDOUT_FILENO, b"ended ");
+    write_last(number as u64);
 }
 
 // Writes a candidate.
 fn write_visited(v: reader::Visited) {
-    field(v.place as u64);
-    field(v.flag as u64);
-    field(v.number as u64);
-    field(v.key_length as u64);
-    last(v.data_length as u64);
+    write_field(v.place as u64);
+    write_field(v.flag as u64);
+    write_field(v.number as u64);
+    write_field(v.key_length as u64);
+    write_last(v.data_length as u64);
 }
 
 // Writes the step n of a walk from the start; whether it came to a candidate.

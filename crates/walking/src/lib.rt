@@ -18,7 +18,7 @@ pub struct Stepped {
 }
 
 // The step of a reader that has come to place `at`: it goes behind the candidate's first byte, and stays where it was with none left.
-pub fn step_from<'a>(track: &'a [u8], marks: &'a [u8], at: usize) -> Stepped
+fn step_from<'a>(track: &'a [u8], marks: &'a [u8], at: usize) -> Stepped
     ensures { λ r. ⌜ (judgedVisit (r .visit) ≡ step at (now (track .entry)) (now (marks .entry)))
         × (r .at ≡ placeAfter at (step at (now (track .entry)) (now (marks .entry)))) ⌝ }
 {

@@ -209,31 +209,39 @@ fn some_number(rng: &mut Rng, inputs: &[Vec<u8>; 2]) -> u8 {
     rng.pick(&numbers)
 }
 
-/// What trackpair prints by the reference, with the data's answer: a line for the key and one for the data.
-fn paired(inputs: &[Vec<u8>; 2], s: u8) -> (u8, String) {
+/// What trackpair prints by the reference, with the data's answer: the key's answer and bytes, then the data's.
+fn paired(inputs: &[Vec<u8>; 2], s: u8) -> (u8, Vec<u8>) {
     let [first, second] = inputs
         .each_ref()
         .map(|input| input.split_at(input.len() / 2));
-    let mut lines = String::new();
+    let mut printed = vec![];
     let mut number = 0;
     for (name, part) in [("key", Part::Key), ("data", Part::Data)] {
         let (done, which, range) = pair_find(first, second, s, part);
-        let track = if which == 0 { first.0 } else { second.0 };
-        let (n, p, bytes) = (done.number, done.place, hexadecimal(&track[range]));
-        lines += &format!("{name} {} {n} {p} {bytes}\n", which + 1);
+        let bytes = if which == 0 {
+            &first.0[range]
+        } else {
+            &second.0[range]
+        };
+        let (n, p, length) = (done.number, done.place, bytes.len());
+        printed.extend(format!("{name} {} {n} {p} {length}\n", which + 1).bytes());
+        printed.extend(bytes.iter().chain(b"\n"));
         number = n;
     }
-    (number, lines)
+    (number, printed)
 }
 
 /// What trackpair writes to standard output and to standard error.
-fn run_trackpair(arguments: &[String]) -> [String; 2] {
+fn run_trackpair(arguments: &[String]) -> (Vec<u8>, String) {
     let output = Command::new(program("trackpair"))
         .args(arguments)
         .output()
         .expect("the program ends");
     assert!(output.status.code().is_some(), "ended by {}", output.status);
-    [output.stdout, output.stderr].map(|text| String::from_utf8_lossy(&text).to_string())
+    (
+        output.stdout,
+        String::from_utf8_lossy(&output.stderr).to_string(),
+    )
 }
 
 #[test]
@@ -249,10 +257,11 @@ fn trackpair_as_the_reference() {
         }
         let s = some_number(&mut rng, &inputs);
         let [one, two] = files.each_ref().map(|file| file.display().to_string());
-        let (number, lines) = paired(&inputs, s);
+        let (number, expected) = paired(&inputs, s);
         tally.count(number);
-        let printed = run_trackpair(&[one, two, s.to_string()]);
-        assert_eq!(printed, [lines, String::new()], "seed {seed}, S {s}");
+        let (printed, told) = run_trackpair(&[one, two, s.to_string()]);
+        assert_eq!(told, "", "seed {seed}, S {s}");
+        assert!(printed == expected, "seed {seed}, S {s}");
     }
     tally.finish(1_600, &[0, 1, 2, 3, 4, 5, 6, 7, 8, 9, 10, 11, 12, 13, 16]);
 }
@@ -264,15 +273,15 @@ fn trackpair_tells_what_is_wrong() {
     let sample = |name: &str| sample(name).display().to_string();
     let files = [sample("defective.bin"), sample("alternative.bin")];
     for s in ["256", "1000", "", "x", "1x", "-1"] {
-        let [printed, told] = run_trackpair(&[&files[..], &[s.to_string()]].concat());
-        assert_eq!(printed, "", "{s}");
+        let (printed, told) = run_trackpair(&[&files[..], &[s.to_string()]].concat());
+        assert!(printed.is_empty(), "{s}");
         assert!(told.starts_with("usage: trackpair"), "{s}: {told}");
     }
     let missing = sample("no such file");
     for names in [[&missing, &files[1]], [&files[0], &missing]] {
         let [one, two] = names.map(String::clone);
-        let [printed, told] = run_trackpair(&[one, two, "1".to_string()]);
-        assert_eq!(printed, "");
+        let (printed, told) = run_trackpair(&[one, two, "1".to_string()]);
+        assert!(printed.is_empty());
         assert!(told.contains("no such file: "), "{told}");
     }
 }

@@ -1,11 +1,11 @@
--- `printing::hexadecimal` is safe and ends: it looks at each byte once.
+-- `trackdump::write_bytes` is safe and ends: it looks at each byte once.
 use mathlib.Core.Path.{_≡_}
 use Prim.Native.Nat.{_-_, _≤_}
 use native.Mathlib.Omega.{arith}
 use borrow.Author.Needs.{needs}
 use lib.ListN.{length}
-use Rattle.printing.proofs.hexadecimal.Statement.{statement}
-use Rattle.printing.proofs.hexadecimal.Tie as tie
+use Rattle.trackdump.proofs.write_bytes.Statement.{statement}
+use Rattle.trackdump.proofs.write_bytes.Tie as tie
 
 abbrev Inv-loop : tie.InvT-loop
 Inv-loop bytes i₀ i-end i = (i ≤ i-end) × (i-end ≡ length bytes)
@@ -13,11 +13,11 @@ Inv-loop bytes i₀ i-end i = (i ≤ i-end) × (i-end ≡ length bytes)
 abbrev μ-loop : tie.MeasureT-loop
 μ-loop bytes i₀ i-end i = i-end - i
 
-slice-aggregate-text : tie.Need-slice-aggregate-text Inv-loop μ-loop
-slice-aggregate-text c = search needs
+slice-aggregate-write-all : tie.Need-slice-aggregate-write-all Inv-loop μ-loop
+slice-aggregate-write-all c = search needs
 
-text-requires : tie.Need-text-requires Inv-loop μ-loop
-text-requires c κs = search needs
+write-all-requires : tie.Need-write-all-requires Inv-loop μ-loop
+write-all-requires c κs = search needs
 
 loop-holds : tie.Need-loop-holds Inv-loop μ-loop
 loop-holds c = search needs
@@ -43,14 +43,14 @@ loop-again c = search needs
 returns : tie.Need-returns Inv-loop μ-loop
 returns c = search needs
 
-pub hexadecimal-spec : {M : Type 1} → statement M
-hexadecimal-spec =
+pub write-bytes-spec : {M : Type 1} → statement M
+write-bytes-spec =
     tie.close
     (tie.spec
     Inv-loop
     μ-loop
-    slice-aggregate-text
-    text-requires
+    slice-aggregate-write-all
+    write-all-requires
     loop-holds
     shared-slice-read-print-hex
     cast-print-hex
