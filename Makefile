@@ -1,9 +1,10 @@
 # make: prove and build all · make list: the main job on a sample · make test: all tests · make try: the C programs
-# make soak: the comparison on as many tracks as one likes · make bench: times beside the reference · make fmt: the layout of every file
+# make soak: the comparison on as many tracks as one likes · make bench: times beside the reference
+# make times: the seconds of each crate's check · make fmt: the layout of every file
 SHELL := /bin/bash
 .SHELLFLAGS := -eo pipefail -c
 MAKEFLAGS += --no-print-directory
-.PHONY: all list test prove host-test lib examples try soak bench sample fmt clean
+.PHONY: all list test prove host-test lib examples try soak bench times sample fmt clean
 
 LIB := target/staticlib/libstation.a
 EXAMPLES := target/examples/station target/examples/reader
@@ -65,6 +66,13 @@ soak: lib
 # Times beside the reference.
 bench: lib
 	cd host && $(CARGO) run --release --quiet -p bench
+
+# The seconds of each crate's check, from nothing and one crate at a time, and of the whole.
+times:
+	@mkdir -p build
+	@start=$$(date +%s); RT_JOBS=1 rt prove > build/times.log 2>&1 || { cat build/times.log; exit 1; }; \
+	sed -n 's/^rt: \([a-z_]*\) proved (\([0-9]*\) s)$$/\1 \2/p' build/times.log; \
+	echo "all $$(($$(date +%s) - start))"
 
 # The samples made anew by the reference; the gate runs the programs on the same bytes.
 sample:
