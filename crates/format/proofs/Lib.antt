@@ -1,5 +1,6 @@
 -- The laws about the definitions, one theme to a file, each resting on those above it.
 pub mod Judged
+pub mod Outcome
 pub mod Lists
 pub mod Shape
 pub mod Opening

@@ -6,7 +6,7 @@ use lib.ListN.{length, replicate}
 use lib.Dec.{leb}
 use Rattle.crc.specs.Pick.{pick}
 use Rattle.format.specs.Answer.{roomMissing}
-use Rattle.format.specs.Judged.{Judged, good, then, require}
+use Rattle.format.specs.Judged.{Judged, good, refused, then, require}
 use Rattle.format.specs.Lent.{bytesOf, marksOf}
 use Rattle.format.specs.Opening.{plainOpening, markedOpening, closing}
 use Rattle.format.specs.Address.{addressBytes}
@@ -66,6 +66,16 @@ pub record Pair : Type 0 where
 -- Cells as bytes and marks.
 unfoldable pub asPair : Judged (List ℕ) → Judged Pair
 asPair j = then j (λ c. good (record { track = bytesOf c; marks = marksOf c }))
+
+-- What a call that writes a pair leaves in the track's buffer: the new bytes, or the old ones where it refuses.
+abbrev pub trackAfter : Judged Pair → List ℕ → List ℕ
+trackAfter (good q) old = q .track
+trackAfter (refused a) old = old
+
+-- The same for the marks.
+abbrev pub marksAfter : Judged Pair → List ℕ → List ℕ
+marksAfter (good q) old = q .marks
+marksAfter (refused a) old = old
 
 -- What follows takes the rule for the gap after a block, by KL and DL.
 module _ (gap : ℕ → ℕ → ℕ) where

@@ -2,12 +2,11 @@
 ghost use mathlib.Core.Path.{_≡_};
 ghost use lib.ListN.{length};
 ghost use Rattle.format.specs.Judged.{answerOf};
-ghost use Rattle.format.specs.Written.{gapOne};
+ghost use Rattle.format.specs.Written.{gapOne, trackAfter, marksAfter};
 ghost use Rattle.format.specs.Blank.{blank};
 ghost use Rattle.format.specs.Add.{add};
 ghost use Rattle.format.specs.Correct.{correct};
 ghost use Rattle.encode.specs.Room.{addressOf};
-ghost use Rattle.writer.specs.After.{trackAfter, marksAfter};
 ghost use Rattle.station.specs.Packed.{packedAnswer};
 use crate::packed_answer;
 

@@ -29,7 +29,7 @@ use Rattle.encode.proofs.Cells.{bytes-append, marks-append}
 use Rattle.sectors.specs.declared.SectorAt.{SectorAt}
 use Rattle.sectors.specs.Stepped.{Stepped, steppedAt, addressAt, asStepped}
 use Rattle.sectors.proofs.From.{SectorsFrom, accepted-start}
-use Rattle.writer.specs.After.{filledSpan}
+use Rattle.writer.specs.Filled.{filledSpan}
 use Rattle.writer.specs.Remaining.{Readable, Remaining}
 use Rattle.writer.proofs.Filled.{bytes-gap, marks-gap, filled-length, laid-to-end, take-laid, take-over}
 use Rattle.writer.proofs.Corrected.{FirstRemaining, first-remaining, some-remaining, readable-steps, readable-remaining}

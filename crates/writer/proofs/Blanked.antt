@@ -21,7 +21,7 @@ use Rattle.encode.specs.Laid.{laidOver, laidAt}
 use Rattle.format.proofs.ReadBack.{length-written}
 use Rattle.format.proofs.WrittenHome.{head-length}
 use Rattle.encode.proofs.Cells.{bytes-append, marks-append}
-use Rattle.writer.specs.After.{filledSpan}
+use Rattle.writer.specs.Filled.{filledSpan}
 use Rattle.writer.proofs.Filled.{content-bounds, laid-to-end, take-over, filled-length}
 
 -- Wanted fields within the rule have content within the rule.

@@ -31,7 +31,7 @@ use Rattle.format.proofs.ReadBack.{length-written}
 use Rattle.sectors.specs.declared.SectorAt.{SectorAt}
 use Rattle.sectors.specs.Stepped.{Stepped, steppedAt, addressAt, asStepped}
 use Rattle.sectors.proofs.From.{SectorsFrom, step-at, steps-end, accepted-start}
-use Rattle.writer.specs.After.{filledSpan}
+use Rattle.writer.specs.Filled.{filledSpan}
 use Rattle.writer.specs.Remaining.{Readable, Remaining, RoomFor, laterCells, farthest, correctedEnd, correctedCells}
 use Rattle.writer.proofs.Filled.{over-front}
 use Rattle.writer.proofs.Farthest.{farthest-from}

@@ -21,7 +21,7 @@ use Rattle.encode.specs.Laid.{laidOver, laidAt, laidIf, laidAtIf}
 use Rattle.format.proofs.Lists.{part-all}
 use Rattle.encode.proofs.Laid.{laid-behind, laid-back-if}
 use Rattle.encode.proofs.Cells.{bytes-append, marks-append, marks-unmarked}
-use Rattle.writer.specs.After.{filledSpan}
+use Rattle.writer.specs.Filled.{filledSpan}
 
 -- A part that is lent from place a on has what is left behind a.
 pub part-length : (a : ℕ) (s : List ℕ) → length (take (length s - a) (drop a s)) ≡ length s - a

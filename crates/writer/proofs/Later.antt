@@ -22,7 +22,7 @@ use Rattle.encode.proofs.Cells.{bytes-append, marks-append}
 use Rattle.sectors.specs.declared.SectorAt.{SectorAt}
 use Rattle.sectors.specs.Stepped.{steppedAt, addressAt, asStepped}
 use Rattle.sectors.proofs.From.{SectorsFrom, Step, step-at, steps-end}
-use Rattle.writer.specs.After.{filledSpan}
+use Rattle.writer.specs.Filled.{filledSpan}
 use Rattle.writer.specs.Remaining.{RemainingRoom, RoomFor, laterCells}
 use Rattle.writer.proofs.Filled.{filled-length, take-laid}
 use Rattle.writer.proofs.Farthest.{size-stepped, gap-stepped, lengths-stepped}

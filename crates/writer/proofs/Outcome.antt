@@ -1,4 +1,4 @@
--- What a call answers and leaves, by what it gives.
+-- What the judgement of the room tells, and an outcome under another name.
 use mathlib.Core.Path.{_≡_, sym, ap, _∙_, subst}
 use Prim.Native.Nat.{ℕ, _+_, _≤_, _<_}
 use native.Mathlib.Omega.{arith}
@@ -8,29 +8,10 @@ use lib.Dec.{leb}
 use borrow.Author.Tests.{leb-true, leb-false}
 use Rattle.crc.specs.Pick.{pick}
 use Rattle.format.specs.Answer.{Answer, answerAt, done, roomMissing}
-use Rattle.format.specs.Judged.{Judged, good, refused, answerOf}
-use Rattle.format.specs.Lent.{bytesOf, marksOf}
+use Rattle.format.specs.Judged.{Judged, answerOf}
 use Rattle.format.specs.Block.{leastGap}
-use Rattle.format.specs.Written.{Pair}
+use Rattle.format.specs.Written.{Pair, trackAfter, marksAfter}
 use Rattle.format.proofs.Judged.{cases}
-use Rattle.format.proofs.Pairs.{pairOf}
-use Rattle.writer.specs.After.{trackAfter, marksAfter}
-
--- A refusal leaves both buffers as they were.
-pub after-refused : (j : Judged Pair) (r a : Answer) (t m : List ℕ) → j ≡ refused a → r ≡ a
-    → (r ≡ answerOf j) × ((t ≡ trackAfter j t) × (m ≡ marksAfter j m))
-after-refused j r a t m e q = (
-  q ∙ ap answerOf (sym e),
-  (ap (λ (k : Judged Pair). trackAfter k t) (sym e), ap (λ (k : Judged Pair). marksAfter k m) (sym e)),
-)
-
--- A call that is done leaves the bytes and marks of the new cells.
-pub after-good : (j : Judged Pair) (r : Answer) (c t m t' m' : List ℕ) → j ≡ good (pairOf c) → r ≡ done → t' ≡ bytesOf c → m' ≡ marksOf c
-    → (r ≡ answerOf j) × ((t' ≡ trackAfter j t) × (m' ≡ marksAfter j m))
-after-good j r c t m t' m' e q f g = (
-  q ∙ ap answerOf (sym e),
-  (f ∙ ap (λ (k : Judged Pair). trackAfter k t) (sym e), g ∙ ap (λ (k : Judged Pair). marksAfter k m) (sym e)),
-)
 
 -- What the judgement of the room tells, whose answer has the number n and the place p.
 module _ (n p end l : ℕ) (e : answerAt n p ≡ pick (leb (end + leastGap true) l) done roomMissing) where

@@ -1,3 +1,3 @@
--- What the writing calls leave in the lent buffers.
-pub mod After
+-- What the writing calls lay out, and what remains to be laid out.
+pub mod Filled
 pub mod Remaining

@@ -16,7 +16,7 @@ ghost use Rattle.format.specs.Add.{bothLent, fromNumber};
 ghost use Rattle.sectors.proofs.From.{SectorsFrom};
 ghost use Rattle.encode.specs.Laid.{laidOver, laidAt};
 ghost use Rattle.encode.specs.Room.{sectorFrom};
-ghost use Rattle.writer.specs.After.{filledSpan};
+ghost use Rattle.writer.specs.Filled.{filledSpan};
 ghost use Rattle.writer.specs.Remaining.{Remaining};
 
 pub mod adding;

@@ -14,8 +14,9 @@ use Rattle.format.proofs.GrownSpans.{lastOf}
 use Rattle.encode.specs.Room.{sectorFrom}
 use Rattle.format.proofs.Opening.{unmarked-below}
 use Rattle.sectors.proofs.From.{SectorsFrom}
-use Rattle.writer.specs.After.{filledSpan}
-use Rattle.writer.proofs.Outcome.{after-refused, after-good, room-done, room-short}
+use Rattle.writer.specs.Filled.{filledSpan}
+use Rattle.format.proofs.Outcome.{after-refused, after-good}
+use Rattle.writer.proofs.Outcome.{room-done, room-short}
 use Rattle.writer.proofs.Filled.{content-bounds, size-most}
 use Rattle.writer.proofs.Corrected.{readable-remaining, readable-lengths, kept-bytes, kept-marks}
 use Rattle.writer.proofs.Added.{readable-low, all-sectors, last-lengths, last-end, last-gap, last-inside, added-made, add-short, add-done}

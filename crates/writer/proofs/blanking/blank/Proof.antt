@@ -9,10 +9,12 @@ use borrow.Author.Tests.{not-true, not-false}
 use Rattle.format.specs.Lent.{bytesOf, marksOf}
 use Rattle.format.specs.Address.{Address}
 use Rattle.format.specs.Blank.{namedBy, writtenHead, blankSector}
+use Rattle.format.proofs.Outcome.{after-refused, after-good}
+use Rattle.format.proofs.Pairs.{pairOf}
 use Rattle.sector.specs.As.{asAddress}
 use Rattle.encode.specs.Room.{addressOf}
-use Rattle.writer.specs.After.{filledSpan}
-use Rattle.writer.proofs.Outcome.{after-refused, after-good, room-done, room-short}
+use Rattle.writer.specs.Filled.{filledSpan}
+use Rattle.writer.proofs.Outcome.{room-done, room-short}
 use Rattle.writer.proofs.Filled.{size-most}
 use Rattle.writer.proofs.Blanked.{blank-content, lent-same, lent-least, blank-lent, blank-wanted, blank-short, blank-done}
 use borrow.Author.Needs.{needs}
@@ -102,7 +104,7 @@ returns-3 c =
     let wrote = c .before .before .before .before .write-blank in
     let named : asAddress (c .before .before .before .before .before .before .before .named-by .result) ≡ namedBy (a .flag) own partner = c .before .before .before .before .before .before .before .named-by .ensures in
     let whole : Address → List ℕ = λ n. writtenHead (a .flag) own ++ filledSpan (length T - 55) (blankSector (a .flag) n (a .s) (a .key .now) (a .body .now)) in
-    after-good _ _ (whole (namedBy (a .flag) own partner)) T M (wrote .last .0) (wrote .last .1 .0)
+    after-good _ _ (pairOf (whole (namedBy (a .flag) own partner))) T M (wrote .last .0) (wrote .last .1 .0)
     (blank-done (length T) (length M) own (a .flag) partner (a .s) (a .key .now) (a .body .now)
     (sym (c .before .before .before .before .before .before .before .before .before .before .before .before .before .before .before .lent-for-writing .ensures) ∙ not-false _ (c .before .before .before .before .before .before .before .before .before .before .before .before .before .before .if1 .left))
     (sym (c .before .before .before .before .before .before .before .before .before .before .before .before .before .blank-right .ensures) ∙ not-false _ (c .before .before .before .before .before .before .before .before .before .before .before .before .if2 .left))

@@ -4,7 +4,8 @@ use native.Mathlib.Omega.{arith}
 use lib.ListN.{length}
 use borrow.Author.Needs.{needs}
 use borrow.Author.Tests.{not-true, not-false}
-use Rattle.writer.proofs.Outcome.{after-refused, after-same}
+use Rattle.format.proofs.Outcome.{after-refused}
+use Rattle.writer.proofs.Outcome.{after-same}
 use Rattle.format.specs.Accept.{accept}
 use Rattle.writer.proofs.Judging.{judged-readable, judged-refused, both-lengths, correct-lent, correct-refused, correct-cells}
 use Rattle.writer.proofs.correcting.correct.Statement.{statement}
