@@ -77,3 +77,7 @@ roomMissing = answerAt 15 0
 -- 16: the pair does not agree, or its first track has flag 11.
 abbrev pub pairWrong : Answer
 pairWrong = answerAt 16 0
+
+-- 17: the bit cells of the byte at p are no legal pattern, or its mark stands on another value than FF.
+abbrev pub patternWrong : ℕ → Answer
+patternWrong p = answerAt 17 p

@@ -1,6 +1,6 @@
 // The answer of a call as code, made in one place for each row of the table.
 ghost use mathlib.Core.Path.{_≡_};
-ghost use Rattle.format.specs.Answer.{answerAt, done, lentWrong, homeMissing, homeCheckWrong, homeFieldsWrong, markStray, firstCountMissing, countCheckWrong, countFieldsWrong, spanTooShort, keyWrong, dataWrong, sectorMissing, sectorRepeated, wantedWrong, roomMissing, pairWrong};
+ghost use Rattle.format.specs.Answer.{answerAt, done, lentWrong, homeMissing, homeCheckWrong, homeFieldsWrong, markStray, firstCountMissing, countCheckWrong, countFieldsWrong, spanTooShort, keyWrong, dataWrong, sectorMissing, sectorRepeated, wantedWrong, roomMissing, pairWrong, patternWrong};
 
 // The number and the place of an answer.
 pub struct Answer {
@@ -175,5 +175,15 @@ pub fn pair_wrong() -> Answer
     Answer {
         number: 16,
         place: 0,
+    }
+}
+
+// 17: the bit cells of the byte at p are no legal pattern, or its mark stands on another value than FF.
+pub fn pattern_wrong(p: usize) -> Answer
+    ensures { λ r. ⌜ answerAt (r .number) (r .place) ≡ patternWrong p ⌝ }
+{
+    Answer {
+        number: 17,
+        place: p,
     }
 }

@@ -5,6 +5,7 @@ ghost use Rattle.reader.specs.Finding.{asAnswer, asVisited, asPart, judgedPart,
 ghost use Rattle.reader.specs.Pairing.{asPaired};
 ghost use Rattle.station.specs.Packed.{packedAnswer, packedBounds, packedPart, packedPaired, packedVisited, packedVisit};
 
+pub mod bit_cells;
 pub mod reading;
 pub mod writing;
 

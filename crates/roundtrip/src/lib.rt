@@ -1,0 +1,1 @@
+// Only laws: from the drive's bit cells to the record and back.
