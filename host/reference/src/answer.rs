@@ -41,6 +41,8 @@ pub const WANTED: u8 = 14;
 pub const FULL: u8 = 15;
 /// 16: the two tracks of a pair do not belong together, or none is allocated.
 pub const PAIR: u8 = 16;
+/// 17: bit cells of no legal pattern, or a mark on another value than `FF`.
+pub const BIT_CELLS: u8 = 17;
 
 impl Answer {
     /// The answer of a call that succeeded.

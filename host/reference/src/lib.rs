@@ -6,6 +6,7 @@
 
 mod accept;
 pub mod answer;
+mod bit_cells;
 pub mod check;
 pub mod generate;
 pub mod layout;
@@ -15,6 +16,7 @@ mod write;
 
 pub use accept::accept;
 pub use answer::Answer;
+pub use bit_cells::{from_cells, to_cells};
 pub use layout::Address;
 pub use read::{find, list, pair_find, walk_from, Candidate, Part, Sector, Walk};
 pub use tracklist::tracklist;
