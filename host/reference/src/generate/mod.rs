@@ -1,7 +1,8 @@
-//! Tracks for tests, drawn from a seed: sound ones, damaged ones, jumbled ones, pairs, and wanted fields.
+//! Tracks for tests, drawn from a seed: sound ones, damaged ones, jumbled ones, pairs, wanted fields, and bit cells.
 //!
 //! Sound tracks are laid out here by hand and never by the writing calls.
 
+mod bit_cells;
 mod damage;
 mod jumble;
 mod pairs;
@@ -10,6 +11,9 @@ mod rng;
 mod sound;
 mod wanted;
 
+pub use bit_cells::{
+    bit_cells_of, wanted_from_cells, wanted_to_cells, WantedFromCells, WantedToCells,
+};
 pub use damage::{damage, damaged, recheck};
 pub use jumble::jumbled;
 pub use pairs::{pair, Pair, Track};
