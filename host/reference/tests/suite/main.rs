@@ -1,6 +1,7 @@
 //! Tests of the reference implementation, one module for each group of calls.
 
 mod accept;
+mod bit_cells;
 mod common;
 mod find;
 mod generated;
