@@ -3,6 +3,9 @@
  *
  * A track is lent as two byte slices of one length L, 3,815 to 4,002: the track and its marks.
  * A mark is 1 where the byte was recorded with its first five clocks missing, and else 0.
+ * The drive's own form of a track is 2L cell bytes. A track byte is sixteen bit cells: for every bit, B8 (the top bit)
+ * first, a clock and then its data; eight bit cells make a cell byte, the first of them its top bit.
+ * An unmarked byte has all eight clocks; a marked one is FF without its first five, which makes 55 7F.
  * Every slice is a pointer and then a length. Nothing is kept after a call returns.
  * Slices lent for writing overlap no other slice of the same call. A pointer is never NULL, also where its length is 0.
  */
@@ -38,7 +41,8 @@ enum iso3561_number {
     ISO3561_REPEATED = 13,    /* two sectors carry one number, or Add repeats one */
     ISO3561_BAD_WANTED = 14,  /* a wanted field is out of rule */
     ISO3561_FULL = 15,        /* fewer than 13 bytes would be left behind the last block */
-    ISO3561_PAIR = 16         /* the two tracks do not agree, or the first is flagged 11 */
+    ISO3561_PAIR = 16,        /* the two tracks do not agree, or the first is flagged 11 */
+    ISO3561_BIT_CELLS = 17    /* a byte's bit cells are no legal pattern, or a marked byte is not FF */
 };
 
 /* What Find and Pair find are asked for. */
@@ -163,6 +167,22 @@ uint64_t iso3561_correct(const uint8_t *track, size_t track_length,
                          uint8_t sector,
                          const uint8_t *key, size_t key_length,
                          const uint8_t *data, size_t data_length);
+
+/* ==== Bit cells: a refusal writes nothing, answer 0 writes all of what is lent for writing ==== */
+
+/* From cells: reads the drive's bit cells. Track and marks, of one L, are written; the 2L cell bytes are read.
+ * Answers: 0, done. 1, where L is out of range, or the marks or the cell bytes are not L and 2L. Then 17, at the first
+ * track byte (not cell byte) whose two cell bytes are no legal pattern. */
+uint64_t iso3561_from_cells(const uint8_t *bit_cells, size_t bit_cells_length,
+                            uint8_t *track, size_t track_length,
+                            uint8_t *marks, size_t marks_length);
+
+/* To cells: the way back. Track and marks are read; the 2L cell bytes are written. The track may be sound or damaged.
+ * Answers: 0, done. 1, where L is out of range, the marks or the cell bytes are not L and 2L, or a mark is not 0 or 1.
+ * Then 17, at the first marked byte that is not FF. */
+uint64_t iso3561_to_cells(const uint8_t *track, size_t track_length,
+                          const uint8_t *marks, size_t marks_length,
+                          uint8_t *bit_cells, size_t bit_cells_length);
 
 #ifdef __cplusplus
 }
