@@ -1,6 +1,7 @@
 //! A safe wrapper of the proved library for tracks of interchangeable six-disk packs (ISO 3561).
 //!
 //! A track is two byte slices of one length, 3,815 to 4,002: the bytes and the marks.
+//! The drive's bit cells are one byte slice of twice that length.
 //!
 //! ```
 //! use station::{accept, blank, find, Address, NewTrack, Wanted};
@@ -16,10 +17,12 @@
 //! assert_eq!(find(&track, &marks, 0, Wanted::Data), Ok(&b"ISO 3561"[..]));
 //! ```
 
+mod bit_cells;
 mod reading;
 mod result;
 mod writing;
 
+pub use bit_cells::{from_cells, to_cells};
 pub use reading::{
     accept, candidates, find, pair_find, walk_from, Candidates, Lent, Wanted, Which,
 };
