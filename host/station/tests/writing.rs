@@ -2,12 +2,14 @@
 
 mod common;
 
-use common::{answer, expected, Tally, Track};
-use reference::generate::{
-    damaged, sound, wanted_add, wanted_blank, wanted_correct, Rng, WantedAdd, WantedBlank,
-    WantedCorrect,
+use common::{
+    answer, expected, lent, new_body, new_sector, new_track, noise, reads_back, same_buffers,
+    Tally, Track,
 };
-use station::{Address, Answer, Candidate, Lent, NewBody, NewSector, NewTrack, Wanted};
+use reference::generate::{
+    damaged, sound, wanted_add, wanted_blank, wanted_correct, WantedAdd, WantedBlank, WantedCorrect,
+};
+use station::{Answer, Candidate, Lent, Wanted};
 
 /// Numbers that Blank can give.
 const BLANK: [u8; 4] = [0, 1, 14, 15];
@@ -27,17 +29,6 @@ fn track_of(seed: u64) -> Track {
     }
 }
 
-/// Both slices of a track.
-fn lent(track: &Track) -> Lent<'_> {
-    (&track.0, &track.1)
-}
-
-/// Two buffers full of noise.
-fn noise(seed: u64, track_length: usize, marks_length: usize) -> Track {
-    let mut rng = Rng::new(seed ^ 0x4015_E000);
-    (rng.bytes(track_length), rng.bytes(marks_length))
-}
-
 /// Buffers for a copy of a track, at times of another length.
 fn buffers(seed: u64, length: usize) -> Track {
     match seed % 40 {
@@ -47,24 +38,6 @@ fn buffers(seed: u64, length: usize) -> Track {
         37 => noise(seed, 0, length),
         _ => noise(seed, length, length),
     }
-}
-
-/// Demands equal buffers; says where the first difference is.
-fn same_buffers(ours: &Track, theirs: &Track, note: &str) {
-    for (name, a, b) in [("track", &ours.0, &theirs.0), ("marks", &ours.1, &theirs.1)] {
-        assert_eq!(a.len(), b.len(), "{name}, {note}");
-        if let Some(place) = (0..a.len()).find(|&place| a[place] != b[place]) {
-            panic!("{name} at {place}: {} and {}, {note}", a[place], b[place]);
-        }
-    }
-}
-
-/// Demands that a written track is accepted and gives back what one sector got.
-fn reads_back((track, marks): Lent, s: u8, key: &[u8], data: &[u8], note: &str) {
-    assert_eq!(station::accept(track, marks), Answer::DONE, "{note}");
-    let found = |wanted| station::find(track, marks, s, wanted);
-    assert_eq!(found(Wanted::Key), Ok(key), "{note}");
-    assert_eq!(found(Wanted::Data), Ok(data), "{note}");
 }
 
 /// Flag, number, key and data of a sector.
@@ -82,26 +55,10 @@ fn contents((track, marks): Lent) -> Vec<Contents> {
     steps.map(contents_of).collect()
 }
 
-/// The wrapper's form of an address.
-fn address(from: reference::Address) -> Address {
-    Address {
-        cylinder: from.cylinder,
-        head: from.head,
-    }
-}
-
 /// Blank by both, into buffers of equal noise; gives the answer and what was written.
 fn blank_by_both(buffers: Track, w: &WantedBlank, note: &str) -> (Answer, Track) {
     let (mut ours, mut theirs) = (buffers.clone(), buffers);
-    let wanted = NewTrack {
-        address: address(w.address),
-        flag: w.flag,
-        partner: address(w.partner),
-        sector: w.s,
-        key: &w.key,
-        data: &w.data,
-    };
-    let done = station::blank(&mut ours.0, &mut ours.1, &wanted);
+    let done = station::blank(&mut ours.0, &mut ours.1, &new_track(w));
     let same = reference::blank(
         &mut theirs.0,
         &mut theirs.1,
@@ -120,13 +77,7 @@ fn blank_by_both(buffers: Track, w: &WantedBlank, note: &str) -> (Answer, Track)
 /// Add by both, into buffers of equal noise.
 fn add_by_both(old: Lent, buffers: Track, w: &WantedAdd, note: &str) -> (Answer, Track) {
     let (mut ours, mut theirs) = (buffers.clone(), buffers);
-    let wanted = NewSector {
-        b7: w.b7,
-        sector: w.s,
-        key: &w.key,
-        data: &w.data,
-    };
-    let done = station::add(old, &mut ours.0, &mut ours.1, &wanted);
+    let done = station::add(old, &mut ours.0, &mut ours.1, &new_sector(w));
     let same = reference::add(
         old.0,
         old.1,
@@ -145,7 +96,7 @@ fn add_by_both(old: Lent, buffers: Track, w: &WantedAdd, note: &str) -> (Answer,
 /// Correct by both, into buffers of equal noise.
 fn correct_by_both(old: Lent, buffers: Track, w: &WantedCorrect, note: &str) -> (Answer, Track) {
     let (mut ours, mut theirs) = (buffers.clone(), buffers);
-    let done = station::correct(old, &mut ours.0, &mut ours.1, &body(w));
+    let done = station::correct(old, &mut ours.0, &mut ours.1, &new_body(w));
     let same = reference::correct(
         old.0,
         old.1,
@@ -158,15 +109,6 @@ fn correct_by_both(old: Lent, buffers: Track, w: &WantedCorrect, note: &str) -> 
     assert_eq!(done, expected(same), "{note}");
     same_buffers(&ours, &theirs, note);
     (done, ours)
-}
-
-/// The wrapper's form of a correction.
-fn body(w: &WantedCorrect) -> NewBody<'_> {
-    NewBody {
-        sector: w.s,
-        key: &w.key,
-        data: &w.data,
-    }
 }
 
 #[test]

@@ -1,17 +1,22 @@
-//! Seeds and tallies of the comparisons; each test file uses a part.
+//! Seeds, tallies, buffers and wanted fields of the comparisons; each test file uses a part.
 #![allow(dead_code)]
 
+use reference::generate::{Rng, WantedAdd, WantedBlank, WantedCorrect};
+use station::{Address, Answer, Lent, NewBody, NewSector, NewTrack, Wanted};
 use std::io::Write;
 use std::ops::Range;
 
 /// Bytes and marks of one track.
 pub type Track = (Vec<u8>, Vec<u8>);
 
+/// How many answer numbers there are.
+const NUMBERS: usize = 18;
+
 /// The seeds of one comparison, and how often each answer number was met.
 pub struct Tally {
     name: &'static str,
     seeds: Range<u64>,
-    met: [u64; 17],
+    met: [u64; NUMBERS],
 }
 
 impl Tally {
@@ -29,7 +34,7 @@ impl Tally {
         Tally {
             name,
             seeds,
-            met: [0; 17],
+            met: [0; NUMBERS],
         }
     }
 
@@ -67,9 +72,9 @@ impl Tally {
         let summary = self.summary();
         writeln!(std::io::stderr(), "{summary}").expect("standard error takes a line");
         assert!(self.calls() >= least_calls, "too few calls: {summary}");
-        for number in 0..17 {
-            let met = self.met[usize::from(number)] > 0;
-            assert_eq!(met, numbers.contains(&number), "number {number}: {summary}");
+        for (number, &times) in (0..).zip(&self.met) {
+            let wanted = numbers.contains(&number);
+            assert_eq!(times > 0, wanted, "number {number}: {summary}");
         }
     }
 }
@@ -82,14 +87,82 @@ fn number_from(name: &str) -> Option<u64> {
 }
 
 /// The reference's answer in the wrapper's type.
-pub fn expected(answer: reference::Answer) -> station::Answer {
-    station::Answer {
+pub fn expected(answer: reference::Answer) -> Answer {
+    Answer {
         number: answer.number,
         place: answer.place,
     }
 }
 
 /// An answer in short.
-pub fn answer(number: u8, place: usize) -> station::Answer {
-    station::Answer { number, place }
+pub fn answer(number: u8, place: usize) -> Answer {
+    Answer { number, place }
+}
+
+/// Both slices of a track.
+pub fn lent(track: &Track) -> Lent<'_> {
+    (&track.0, &track.1)
+}
+
+/// Two buffers full of noise.
+pub fn noise(seed: u64, track_length: usize, marks_length: usize) -> Track {
+    let mut rng = Rng::new(seed ^ 0x4015_E000);
+    (rng.bytes(track_length), rng.bytes(marks_length))
+}
+
+/// Demands equal buffers; says where the first difference is.
+pub fn same_buffers(ours: &Track, theirs: &Track, note: &str) {
+    for (name, a, b) in [("track", &ours.0, &theirs.0), ("marks", &ours.1, &theirs.1)] {
+        assert_eq!(a.len(), b.len(), "{name}, {note}");
+        if let Some(place) = (0..a.len()).find(|&place| a[place] != b[place]) {
+            panic!("{name} at {place}: {} and {}, {note}", a[place], b[place]);
+        }
+    }
+}
+
+/// Demands that a written track is accepted and gives back what one sector got.
+pub fn reads_back((track, marks): Lent, s: u8, key: &[u8], data: &[u8], note: &str) {
+    assert_eq!(station::accept(track, marks), Answer::DONE, "{note}");
+    let found = |wanted| station::find(track, marks, s, wanted);
+    assert_eq!(found(Wanted::Key), Ok(key), "{note}");
+    assert_eq!(found(Wanted::Data), Ok(data), "{note}");
+}
+
+/// The wrapper's form of an address.
+fn address(from: reference::Address) -> Address {
+    Address {
+        cylinder: from.cylinder,
+        head: from.head,
+    }
+}
+
+/// The wrapper's form of a wanted track.
+pub fn new_track(w: &WantedBlank) -> NewTrack<'_> {
+    NewTrack {
+        address: address(w.address),
+        flag: w.flag,
+        partner: address(w.partner),
+        sector: w.s,
+        key: &w.key,
+        data: &w.data,
+    }
+}
+
+/// The wrapper's form of a wanted sector.
+pub fn new_sector(w: &WantedAdd) -> NewSector<'_> {
+    NewSector {
+        b7: w.b7,
+        sector: w.s,
+        key: &w.key,
+        data: &w.data,
+    }
+}
+
+/// The wrapper's form of a correction.
+pub fn new_body(w: &WantedCorrect) -> NewBody<'_> {
+    NewBody {
+        sector: w.s,
+        key: &w.key,
+        data: &w.data,
+    }
 }
