@@ -1,0 +1,125 @@
+//! Each call by the proved library and by the reference.
+
+use crate::jobs::Job;
+use reference::Part;
+use station::{NewBody, Wanted};
+
+/// What one call gave: number, place, and a part's start and length.
+pub type Outcome = (u8, usize, usize, usize);
+
+/// One call on one track of a pack.
+pub type Call = fn(&mut Job) -> Outcome;
+
+/// An outcome without a part.
+fn plain(number: u8, place: usize) -> Outcome {
+    (number, place, 0, 0)
+}
+
+/// The outcome of an answer by the proved library.
+fn ours(answer: station::Answer) -> Outcome {
+    plain(answer.number, answer.place)
+}
+
+/// The outcome of an answer by the reference.
+fn theirs(answer: reference::Answer) -> Outcome {
+    plain(answer.number, answer.place)
+}
+
+/// Accept by the proved library.
+pub fn accept_ours(job: &mut Job) -> Outcome {
+    ours(station::accept(&job.track, &job.marks))
+}
+
+/// Accept by the reference.
+pub fn accept_theirs(job: &mut Job) -> Outcome {
+    theirs(reference::accept(&job.track, &job.marks))
+}
+
+/// Find by the proved library; an empty part may lie anywhere.
+pub fn find_ours(job: &mut Job) -> Outcome {
+    match station::find(&job.track, &job.marks, job.s, Wanted::Data) {
+        Err(answer) => ours(answer),
+        Ok([]) => plain(0, 0),
+        Ok(part) => {
+            let start = part.as_ptr() as usize - job.track.as_ptr() as usize;
+            (0, 0, start, part.len())
+        }
+    }
+}
+
+/// Find by the reference.
+pub fn find_theirs(job: &mut Job) -> Outcome {
+    let (answer, range) = reference::find(&job.track, &job.marks, job.s, Part::Data);
+    match range.is_empty() {
+        true => theirs(answer),
+        false => (answer.number, answer.place, range.start, range.len()),
+    }
+}
+
+/// Correct by the proved library.
+pub fn correct_ours(job: &mut Job) -> Outcome {
+    let wanted = NewBody {
+        sector: job.correction.s,
+        key: &job.correction.key,
+        data: &job.correction.data,
+    };
+    let (old, new) = ((&job.track[..], &job.marks[..]), &mut job.new);
+    ours(station::correct(
+        old,
+        &mut new.track,
+        &mut new.marks,
+        &wanted,
+    ))
+}
+
+/// Correct by the reference.
+pub fn correct_theirs(job: &mut Job) -> Outcome {
+    let wanted = &job.correction;
+    theirs(reference::correct(
+        &job.track,
+        &job.marks,
+        &mut job.new.track,
+        &mut job.new.marks,
+        wanted.s,
+        &wanted.key,
+        &wanted.data,
+    ))
+}
+
+/// From cells by the proved library.
+pub fn from_cells_ours(job: &mut Job) -> Outcome {
+    let new = &mut job.new;
+    ours(station::from_cells(
+        &job.bit_cells,
+        &mut new.track,
+        &mut new.marks,
+    ))
+}
+
+/// From cells by the reference.
+pub fn from_cells_theirs(job: &mut Job) -> Outcome {
+    let new = &mut job.new;
+    theirs(reference::from_cells(
+        &job.bit_cells,
+        &mut new.track,
+        &mut new.marks,
+    ))
+}
+
+/// To cells by the proved library.
+pub fn to_cells_ours(job: &mut Job) -> Outcome {
+    ours(station::to_cells(
+        &job.track,
+        &job.marks,
+        &mut job.new.bit_cells,
+    ))
+}
+
+/// To cells by the reference.
+pub fn to_cells_theirs(job: &mut Job) -> Outcome {
+    theirs(reference::to_cells(
+        &job.track,
+        &job.marks,
+        &mut job.new.bit_cells,
+    ))
+}

@@ -1,0 +1,76 @@
+//! The tracks of a pack, with what is asked of each and the buffers it is written to.
+
+use reference::generate::{bit_cells_of, wanted_correct, Rng, WantedCorrect};
+
+/// Cylinders times heads of a pack.
+pub const PACK: u64 = 203 * 10;
+
+/// One track of the pack, its bit cells, what is asked of it, and buffers to write to.
+pub struct Job {
+    pub track: Vec<u8>,
+    pub marks: Vec<u8>,
+    pub bit_cells: Vec<u8>,
+    pub s: u8,
+    pub correction: WantedCorrect,
+    pub new: Buffers,
+}
+
+/// What a call may write to.
+#[derive(Clone, PartialEq, Eq)]
+pub struct Buffers {
+    pub track: Vec<u8>,
+    pub marks: Vec<u8>,
+    pub bit_cells: Vec<u8>,
+}
+
+/// Makes a track from a seed.
+pub type Generator = fn(u64) -> (Vec<u8>, Vec<u8>);
+
+/// A full pack of tracks from one generator.
+pub fn pack(generator: Generator) -> Vec<Job> {
+    let job = |seed| {
+        let (track, marks) = generator(seed);
+        Job {
+            bit_cells: bit_cells_of(&track, &marks),
+            s: some_number(&track, &marks, seed),
+            correction: wanted_correct(seed, &track, &marks),
+            new: Buffers::of(track.len()),
+            track,
+            marks,
+        }
+    };
+    (0..PACK).map(job).collect()
+}
+
+impl Buffers {
+    /// Buffers for a track of this length.
+    fn of(length: usize) -> Buffers {
+        Buffers {
+            track: vec![0xA5; length],
+            marks: vec![0x5A; length],
+            bit_cells: vec![0xC3; 2 * length],
+        }
+    }
+}
+
+/// The number of a readable sector, if there is one.
+fn some_number(track: &[u8], marks: &[u8], seed: u64) -> u8 {
+    let mut walk = reference::Walk::new(track, marks);
+    let numbers: Vec<u8> = std::iter::from_fn(|| walk.step().ok())
+        .map(|candidate| candidate.s)
+        .collect();
+    match numbers.is_empty() {
+        true => 0,
+        false => Rng::new(seed).pick(&numbers),
+    }
+}
+
+/// On each track, at a random place, a clock lost from the bit cells, and a mark on another value than `FF`.
+pub fn spoil_cells(jobs: &mut [Job]) {
+    for (seed, job) in (0..).zip(jobs) {
+        let place = Rng::new(seed).below(job.track.len());
+        job.bit_cells[2 * place + 1] ^= 0x02;
+        job.track[place] &= 0x7F;
+        job.marks[place] = 1;
+    }
+}
