@@ -7,7 +7,7 @@ MAKEFLAGS += --no-print-directory
 .PHONY: all list test prove host-test lib examples try soak bench times sample fmt clean
 
 LIB := target/staticlib/libstation.a
-EXAMPLES := target/examples/station target/examples/reader
+EXAMPLES := target/examples/station target/examples/reader target/examples/cells
 CARGO := cargo --offline
 CFLAGS ?= -O2
 SOAK ?= 200000
@@ -50,6 +50,7 @@ target/examples/%: examples/%.c include/iso3561.h $(LIB)
 	$(CC) -std=c99 -Wall -Wextra -pedantic $(CFLAGS) -Iinclude $< $(LIB) -o $@
 
 # The C station makes the sample's very bytes, tracklist lists them, and the C reader reads them, and a defective track with its alternative.
+# The third program sends a track to bit cells and reads it back.
 try: examples
 	@mkdir -p build
 	@rt check tracklist > build/list.log 2>&1 || { cat build/list.log; exit 1; }
@@ -58,6 +59,7 @@ try: examples
 	target/bin/tracklist < target/examples/case5.bin
 	target/examples/reader target/examples/case5.bin
 	target/examples/reader samples/defective.bin samples/alternative.bin
+	target/examples/cells target/examples/cells.bin
 
 # As many seeds as one likes: make soak SOAK=1000000 SEED=5000000
 soak: lib
