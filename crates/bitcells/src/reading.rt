@@ -63,7 +63,8 @@ fn judge_patterns(bit_cells: &[u8]) -> Fault
             i += 16;
             continue;
         }
-        if !legal_pattern(bit_cells[2 * i], bit_cells[2 * i + 1]) {
+        let at = 2 * i;
+        if !legal_pattern(bit_cells[at], bit_cells[at + 1]) {
             return Fault::At(i);
         }
         i += 1;
@@ -82,8 +83,9 @@ fn write_pair(bit_cells: &[u8], track: &mut [u8], marks: &mut [u8])
     let n = track.len();
     let mut i = 0;
     while i < n {
-        let x = bit_cells[2 * i];
-        let y = bit_cells[2 * i + 1];
+        let at = 2 * i;
+        let x = bit_cells[at];
+        let y = bit_cells[at + 1];
         track[i] = data_in(x, y);
         marks[i] = mark_in(x, y);
         i += 1;

@@ -91,8 +91,9 @@ fn write_cells(track: &[u8], marks: &[u8], bit_cells: &mut [u8])
     while i < n {
         let b = track[i];
         let mark = marks[i];
-        bit_cells[2 * i] = first_cells(b, mark);
-        bit_cells[2 * i + 1] = second_cells(b, mark);
+        let at = 2 * i;
+        bit_cells[at] = first_cells(b, mark);
+        bit_cells[at + 1] = second_cells(b, mark);
         i += 1;
     }
 }

@@ -41,14 +41,11 @@ loop-again c =
     let h = c .before .block-clocked .ensures (c .if1 .taken) in
     (omega (arith, h .0), l .inv .1 ∙ legal-pass x (l .i) 16 h)
 
-mul-legal-pattern : tie.Need-mul-legal-pattern Inv-loop μ-loop
-mul-legal-pattern c = search needs
+mul-at : tie.Need-mul-at Inv-loop μ-loop
+mul-at c = search needs
 
 shared-slice-read-legal-pattern : tie.Need-shared-slice-read-legal-pattern Inv-loop μ-loop
 shared-slice-read-legal-pattern c = search needs
-
-mul-legal-pattern-2 : tie.Need-mul-legal-pattern-2 Inv-loop μ-loop
-mul-legal-pattern-2 c = search needs
 
 add-legal-pattern : tie.Need-add-legal-pattern Inv-loop μ-loop
 add-legal-pattern c = search needs
@@ -86,4 +83,4 @@ returns-2 c =
 pub judge-patterns-spec : {M : Type 1} → statement M
 judge-patterns-spec =
     tie.close
-    (tie.spec Inv-loop μ-loop loop-holds block-clocked-requires add-i loop-less loop-again mul-legal-pattern shared-slice-read-legal-pattern mul-legal-pattern-2 add-legal-pattern shared-slice-read-legal-pattern-2 legal-pattern-requires returns add-i-2 loop-less-2 loop-again-2 returns-2)
+    (tie.spec Inv-loop μ-loop loop-holds block-clocked-requires add-i loop-less loop-again mul-at shared-slice-read-legal-pattern add-legal-pattern shared-slice-read-legal-pattern-2 legal-pattern-requires returns add-i-2 loop-less-2 loop-again-2 returns-2)

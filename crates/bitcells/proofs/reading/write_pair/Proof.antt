@@ -27,14 +27,11 @@ abbrev μ-loop : tie.MeasureT-loop
 loop-holds : tie.Need-loop-holds Inv-loop μ-loop
 loop-holds c = (omega arith, refl, refl, refl, refl)
 
-mul-x : tie.Need-mul-x Inv-loop μ-loop
-mul-x c = search needs
+mul-at : tie.Need-mul-at Inv-loop μ-loop
+mul-at c = search needs
 
 shared-slice-read-x : tie.Need-shared-slice-read-x Inv-loop μ-loop
 shared-slice-read-x c = search needs
-
-mul-y : tie.Need-mul-y Inv-loop μ-loop
-mul-y c = search needs
 
 add-y : tie.Need-add-y Inv-loop μ-loop
 add-y c = search needs
@@ -99,4 +96,4 @@ returns c =
 pub write-pair-spec : {M : Type 1} → statement M
 write-pair-spec =
     tie.close
-    (tie.spec Inv-loop μ-loop loop-holds mul-x shared-slice-read-x mul-y add-y shared-slice-read-y data-in-requires slice-write-track mark-in-requires slice-write-marks add-i loop-less loop-again same-length same-length-2 returns)
+    (tie.spec Inv-loop μ-loop loop-holds mul-at shared-slice-read-x add-y shared-slice-read-y data-in-requires slice-write-track mark-in-requires slice-write-marks add-i loop-less loop-again same-length same-length-2 returns)

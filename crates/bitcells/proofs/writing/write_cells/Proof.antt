@@ -40,8 +40,8 @@ first-cells-requires c κs =
     let v = l .inv .1 in
     omega (arith, mark-at (s .args .marks .now) (lent-legal (s .args .track .now) (s .args .marks .now) (s .pre .0)) (l .i) (omega arith))
 
-mul-bit-cells : tie.Need-mul-bit-cells Inv-loop μ-loop
-mul-bit-cells c = search needs
+mul-at : tie.Need-mul-at Inv-loop μ-loop
+mul-at c = search needs
 
 slice-write-bit-cells : tie.Need-slice-write-bit-cells Inv-loop μ-loop
 slice-write-bit-cells c = search needs
@@ -52,9 +52,6 @@ second-cells-requires c κs =
     let l = c .before .before .before .before .loop in
     let v = l .inv .1 in
     omega (arith, mark-at (s .args .marks .now) (lent-legal (s .args .track .now) (s .args .marks .now) (s .pre .0)) (l .i) (omega arith))
-
-mul-bit-cells-2 : tie.Need-mul-bit-cells-2 Inv-loop μ-loop
-mul-bit-cells-2 c = search needs
 
 add-bit-cells : tie.Need-add-bit-cells Inv-loop μ-loop
 add-bit-cells c = search needs
@@ -102,4 +99,4 @@ returns c =
 pub write-cells-spec : {M : Type 1} → statement M
 write-cells-spec =
     tie.close
-    (tie.spec Inv-loop μ-loop loop-holds shared-slice-read-b shared-slice-read-mark first-cells-requires mul-bit-cells slice-write-bit-cells second-cells-requires mul-bit-cells-2 add-bit-cells slice-write-bit-cells-2 add-i loop-less loop-again same-length returns)
+    (tie.spec Inv-loop μ-loop loop-holds shared-slice-read-b shared-slice-read-mark mul-at first-cells-requires slice-write-bit-cells second-cells-requires add-bit-cells slice-write-bit-cells-2 add-i loop-less loop-again same-length returns)
