@@ -1,13 +1,12 @@
 -- The bit cells of a track byte by byte: the elements and the lengths of what the definitions give for each.
-use mathlib.Core.Path.{_≡_, refl, sym, ap, _∙_}
+use mathlib.Core.Path.{_≡_, refl, ap}
 use Prim.Native.Nat.{ℕ, zero, suc, _+_, _*_, _/_, _<_, min}
 use native.Mathlib.Omega.{arith}
-use mathlib.Core.List.{List, [], _∷_, _++_}
+use mathlib.Core.List.{List, [], _∷_}
 use lib.ListN.{length, getD}
-use Rattle.format.specs.Span.{joined}
-use Rattle.bitcells.specs.Pattern.{firstCells, secondCells, clocksFor}
+use Rattle.pattern.specs.Pattern.{firstCells, secondCells, clocksFor, cellBytes}
 use Rattle.bitcells.specs.Each.{eachPattern, eachByte}
-use Rattle.bitcells.specs.ToCells.{cellBytes, writtenCells}
+use Rattle.bitcells.specs.ToCells.{writtenCells}
 
 module _ {A : Type 0} (f : ℕ → ℕ → A) where
   -- There is one for each two cell bytes,

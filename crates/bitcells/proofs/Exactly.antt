@@ -1,25 +1,25 @@
 -- Answer 17 of both calls: given exactly where the text says, with the lowest such place.
-use mathlib.Core.Path.{_≡_, refl, sym, ap, _∙_}
+use mathlib.Core.Path.{_≡_, sym, ap, _∙_}
 use Prim.Native.Nat.{ℕ, _+_, _*_, _<_}
 use native.Mathlib.Omega.{arith}
-use mathlib.Core.Bool.{Bool, true, false, _||_}
+use mathlib.Core.Bool.{Bool, true, false}
 use mathlib.Core.List.{List}
 use lib.ListN.{length, getD}
 use lib.Dec.{eqb}
 use borrow.Author.Tests.{eqb-true, eqb-false, eq-eqb, ne-eqb}
-use Rattle.format.specs.Answer.{Answer, lentWrong, patternWrong}
+use Rattle.format.specs.Answer.{lentWrong, patternWrong}
 use Rattle.format.specs.Judged.{Judged, good, refused, then, require, answerOf}
-use Rattle.format.specs.Lent.{marksLegal, lentForWriting, lentForReading}
+use Rattle.format.specs.Lent.{lentForWriting, lentForReading}
 use Rattle.format.specs.Written.{Pair}
 use Rattle.format.proofs.Judged.{cases, false-true, and-both}
 use Rattle.format.proofs.Pairs.{lent-marks}
-use Rattle.bitcells.specs.Pattern.{recordable, legalPattern}
+use Rattle.pattern.specs.Pattern.{recordable, legalPattern}
 use Rattle.bitcells.specs.Each.{eachPattern, eachByte, judgeEach}
 use Rattle.bitcells.specs.FromCells.{lentFrom, readPair, fromCells}
 use Rattle.bitcells.specs.ToCells.{lentTo, writtenCells, toCells}
 use Rattle.bitcells.specs.Legal.{FirstIllegal, FirstOther}
 use Rattle.bitcells.proofs.Each.{length-pattern, getD-pattern, length-each, getD-each}
-use Rattle.bitcells.proofs.FirstFault.{FirstFails, fails-each, each-fails}
+use Rattle.bitcells.proofs.FirstFault.{fails-each, each-fails}
 use Rattle.bitcells.proofs.RoundTrip.{mark-at, lent-legal}
 
 -- A refusal by 17 comes from the places, not from what is lent, and not from what is given where all is well.

@@ -1,12 +1,8 @@
--- The laws of the bit cells, each file over those above it.
-pub mod Inverse
+-- The laws of the bit cells of a track, each file over those above it.
 pub mod Each
 pub mod FirstFault
-pub mod Legal
 pub mod RoundTrip
 pub mod Exactly
-pub mod Worked
-pub mod Masks
 pub mod Filled
 pub mod Passed
 pub mod Lent

@@ -1,5 +1,5 @@
 -- What the two calls give, step by step as their code goes.
-use mathlib.Core.Path.{_≡_, refl, sym, ap, _∙_}
+use mathlib.Core.Path.{_≡_, sym, ap, _∙_}
 use Prim.Native.Nat.{ℕ, _*_}
 use mathlib.Core.Bool.{true, false}
 use mathlib.Core.List.{List}
@@ -9,9 +9,8 @@ use borrow.Author.Tests.{eqb-true}
 use Rattle.format.specs.Answer.{Answer, done, lentWrong, patternWrong}
 use Rattle.format.specs.Judged.{Judged, good, refused, answerOf, valueOr}
 use Rattle.format.specs.Lent.{lengthRight, lentForWriting, lentForReading}
-use Rattle.format.specs.Written.{Pair}
 use Rattle.format.proofs.Judged.{and-both}
-use Rattle.bitcells.specs.Pattern.{recordable, legalPattern}
+use Rattle.pattern.specs.Pattern.{recordable, legalPattern}
 use Rattle.bitcells.specs.Each.{eachPattern, eachByte, judgeEach}
 use Rattle.bitcells.specs.FromCells.{lentFrom, readPair, fromCells}
 use Rattle.bitcells.specs.ToCells.{lentTo, writtenCells, toCells}

@@ -10,12 +10,12 @@ use lib.ListN.{length, getD, take, drop, length-drop}
 use lib.Seq.{length-take-le, getD-take, getD-drop}
 use Rattle.format.specs.Judged.{refused}
 use Rattle.format.specs.Answer.{patternWrong}
-use Rattle.bitcells.specs.Pattern.{recordable, legalPattern}
+use Rattle.pattern.specs.Pattern.{recordable, legalPattern}
 use Rattle.bitcells.specs.Each.{eachPattern, eachByte, judgeEach}
 use Rattle.bitcells.specs.Passed.{Clocked, LegalFrom, Unmarked, UnmarkedFrom}
 use Rattle.bitcells.proofs.Each.{length-pattern, getD-pattern, length-each, getD-each}
 use Rattle.bitcells.proofs.FirstFault.{pass, stop}
-use Rattle.bitcells.proofs.Masks.{legal-clocked}
+use Rattle.pattern.proofs.Masks.{legal-clocked}
 
 -- An element of the part of n elements from place a on, and the part's length.
 part-at : (x : List ℕ) (a n i : ℕ) → i < n → getD (take n (drop a x)) i 0 ≡ getD x (a + i) 0
@@ -25,8 +25,8 @@ part-length : (x : List ℕ) (a n : ℕ) → a + n ≤ length x → length (take
 part-length x a n h = length-take-le n (drop a x) (omega (arith, length-drop a x))
 
 -- Sixteen track bytes whose cell bytes have all their clocks have legal patterns.
-pub clocked-legal : (x : List ℕ) (p n : ℕ) → ((i : ℕ) → getD x i 0 < 256) → n ≡ 32 → 2 * p + 32 ≤ length x → Clocked (take n (drop (2 * p) x)) → LegalFrom 16 p x
-clocked-legal x p n bytes e l h = (
+pub clocked-legal : (x : List ℕ) (p n : ℕ) → ((i : ℕ) → getD x i 0 < 256) → Clocked (take n (drop (2 * p) x)) → n ≡ 32 → 2 * p + 32 ≤ length x → LegalFrom 16 p x
+clocked-legal x p n bytes h e l = (
   omega arith,
   λ i j.
       let a : ℕ = 2 * (p + i) in
@@ -42,8 +42,8 @@ clocked-legal x p n bytes e l h = (
         omega (arith, and-le-r (getD x a 0) 0xAA)
 
 -- Thirty-two marks that are all 0 are so each at its place.
-pub part-unmarked : (m : List ℕ) (p n : ℕ) → n ≡ 32 → p + 32 ≤ length m → Unmarked (take n (drop p m)) → UnmarkedFrom 32 p m
-part-unmarked m p n e l h = (
+pub part-unmarked : (m : List ℕ) (p n : ℕ) → Unmarked (take n (drop p m)) → n ≡ 32 → p + 32 ≤ length m → UnmarkedFrom 32 p m
+part-unmarked m p n h e l = (
   l,
   λ i j. sym (part-at m p n i (omega arith)) ∙ h i (omega (arith, part-length m p n (omega arith))),
 )

@@ -1,8 +1,8 @@
 -- A track whose marked bytes are all FF goes to bit cells and comes back the same, and so does a legal cell string that goes to a track.
 use mathlib.Core.Path.{_≡_, refl, sym, ap, ap₂, _∙_, subst}
-use Prim.Native.Nat.{ℕ, zero, suc, _+_, _*_, _/_, _<_, min}
+use Prim.Native.Nat.{ℕ, zero, suc, _+_, _*_, _<_}
 use native.Mathlib.Omega.{arith}
-use mathlib.Core.Bool.{Bool, true, false, _&&_, or-true}
+use mathlib.Core.Bool.{Bool, true, false}
 use mathlib.Core.List.{List, [], _∷_}
 use lib.ListN.{length, getD}
 use lib.Seq.{ext-getD}
@@ -11,20 +11,20 @@ use borrow.Author.Tests.{ltb-true, lt-ltb, eqb-true, eqb-false, eq-eqb}
 use Rattle.crc.specs.Halves.{AllBytes}
 use Rattle.crc.proofs.Bytes.{all-bytes}
 use Rattle.format.specs.Answer.{lentWrong}
-use Rattle.format.specs.Judged.{Judged, good, then, require}
+use Rattle.format.specs.Judged.{good}
 use Rattle.format.specs.Lent.{lengthRight, marksLegal, lentForWriting, lentForReading}
 use Rattle.format.specs.Written.{Pair}
 use Rattle.format.proofs.Judged.{cases, and-both, and-make, good-inj, then-good, require-good}
 use Rattle.format.proofs.Pairs.{lent-marks}
-use Rattle.bitcells.specs.Pattern.{firstCells, secondCells, clocksFor, recordable, clocksIn, dataIn, legalPattern, markIn}
+use Rattle.pattern.specs.Pattern.{firstCells, secondCells, clocksFor, recordable, clocksIn, dataIn, legalPattern, markIn, cellBytes}
 use Rattle.bitcells.specs.Each.{eachPattern, eachByte, judgeEach}
 use Rattle.bitcells.specs.FromCells.{lentFrom, readPair, fromCells}
-use Rattle.bitcells.specs.ToCells.{lentTo, cellBytes, writtenCells, toCells}
+use Rattle.bitcells.specs.ToCells.{lentTo, writtenCells, toCells}
 use Rattle.bitcells.specs.Legal.{LegalCells, MarkedFF}
-use Rattle.bitcells.proofs.Inverse.{data-written, first-read, second-read, data-byte}
+use Rattle.pattern.proofs.Inverse.{data-written, first-read, second-read, data-byte}
 use Rattle.bitcells.proofs.Each.{length-pattern, getD-pattern, length-each, getD-each, pattern-written, length-written}
 use Rattle.bitcells.proofs.FirstFault.{each-holds, holds-each}
-use Rattle.bitcells.proofs.Legal.{legal-written, mark-written, legal-clocks, legal-marked, mark-legal}
+use Rattle.pattern.proofs.Legal.{legal-written, mark-written, legal-clocks, legal-marked, mark-legal}
 
 -- Bytes are bytes place by place.
 pub byte-at : (t : List ℕ) → AllBytes t → (i : ℕ) → i < length t → getD t i 0 < 256
@@ -198,8 +198,8 @@ module _ (x : List ℕ) (l k : ℕ) (bytes : AllBytes x) where
       (r .3)
       (lent-read (r .0) (r .1) (r .2), bytes-read (r .0) (r .1) (r .2), marked-read (r .0) (r .1) (r .2), length-track (r .0) (r .1) (r .2), sent-again (r .0) (r .1) (r .2))
 
--- A legal cell string of a legal length is read.
-pub legal-read : (x : List ℕ) (l : ℕ) → lengthRight l ≡ true → length x ≡ 2 * l → LegalCells x → fromCells x l l ≡ good (readPair x)
+-- A legal cell string of a legal length is read,
+legal-read : (x : List ℕ) (l : ℕ) → lengthRight l ≡ true → length x ≡ 2 * l → LegalCells x → fromCells x l l ≡ good (readPair x)
 unfolding fromCells lentFrom lentForWriting
 legal-read x l n two legal =
     let e : lentFrom (length x) l l ≡ true = and-make (and-make n (eq-eqb l l refl)) (eq-eqb (length x) (2 * l) two) in
@@ -207,3 +207,11 @@ legal-read x l n two legal =
     let s : 2 * i + 1 < length x = omega (arith, length-pattern legalPattern x) in
     getD-pattern legalPattern x i false s ∙ legal i s) in
     rw (e, h)
+
+-- the marked bytes that it gives are all FF, and they go to the same cell string.
+pub cells-back : (x : List ℕ) (l : ℕ) → lengthRight l ≡ true → length x ≡ 2 * l → AllBytes x → LegalCells x
+    → (q : Pair) × (fromCells x l l ≡ good q) × MarkedFF (q .track) (q .marks) × (toCells (q .track) (q .marks) (2 * l) ≡ good x)
+cells-back x l n two bytes legal =
+    let e : fromCells x l l ≡ good (readPair x) = legal-read x l n two legal in
+    let r = written-back x l l bytes (readPair x) e in
+    (readPair x, e, r .2, ap (toCells (readPair x .track) (readPair x .marks)) (sym two) ∙ r .4)

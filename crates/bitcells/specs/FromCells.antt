@@ -8,7 +8,7 @@ use Rattle.format.specs.Answer.{lentWrong}
 use Rattle.format.specs.Judged.{Judged, good, then, require}
 use Rattle.format.specs.Lent.{lentForWriting}
 use Rattle.format.specs.Written.{Pair}
-use Rattle.bitcells.specs.Pattern.{dataIn, legalPattern, markIn}
+use Rattle.pattern.specs.Pattern.{dataIn, legalPattern, markIn}
 use Rattle.bitcells.specs.Each.{eachPattern, judgeEach}
 
 -- n cell bytes and a pair of the lengths l and k are lent within the rule: two cell bytes for each of L bytes.

@@ -4,7 +4,7 @@ use Prim.Native.Nat.{ℕ, _+_, _*_, _<_}
 use mathlib.Core.Bool.{true, false}
 use mathlib.Core.List.{List}
 use lib.ListN.{length, getD}
-use Rattle.bitcells.specs.Pattern.{legalPattern}
+use Rattle.pattern.specs.Pattern.{legalPattern}
 
 -- A legal cell string: the two cell bytes of every track byte are a legal pattern.
 abbrev pub LegalCells : List ℕ → Type 0

@@ -1,5 +1,4 @@
--- The drive's bit cells in the order of their text: the bit cells of a byte, those of a track, and the two calls.
-pub mod Pattern
+-- The bit cells of a track in the order of their text: byte by byte, the two calls, what they turn into each other, and what the code looks for.
 pub mod Each
 pub mod FromCells
 pub mod ToCells

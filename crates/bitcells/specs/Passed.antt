@@ -5,7 +5,7 @@ use mathlib.Core.Bool.{true}
 use mathlib.Core.List.{List}
 use lib.Bits.{bitAnd}
 use lib.ListN.{length, getD}
-use Rattle.bitcells.specs.Pattern.{legalPattern}
+use Rattle.pattern.specs.Pattern.{legalPattern}
 
 -- The four clocks of every cell byte are present: they are the bits of AA.
 abbrev pub Clocked : List ℕ → Type 0

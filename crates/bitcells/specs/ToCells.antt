@@ -1,23 +1,19 @@
 -- From a track and its marks to the drive's bit cells.
 use Prim.Native.Nat.{ℕ, _*_}
 use mathlib.Core.Bool.{Bool, _&&_}
-use mathlib.Core.List.{List, [], _∷_}
+use mathlib.Core.List.{List}
 use lib.ListN.{length}
 use lib.Dec.{eqb}
 use Rattle.format.specs.Answer.{lentWrong}
 use Rattle.format.specs.Judged.{Judged, good, then, require}
 use Rattle.format.specs.Lent.{lentForReading}
 use Rattle.format.specs.Span.{joined}
-use Rattle.bitcells.specs.Pattern.{firstCells, secondCells, clocksFor, recordable}
+use Rattle.pattern.specs.Pattern.{recordable, cellBytes}
 use Rattle.bitcells.specs.Each.{eachByte, judgeEach}
 
 -- A pair and n cell bytes are lent within the rule: the pair for reading, and two cell bytes for each of its bytes.
 unfoldable pub lentTo : List ℕ → List ℕ → ℕ → Bool
 lentTo t m n = lentForReading t m && eqb n (2 * length t)
-
--- The two cell bytes of a byte with its mark.
-unfoldable pub cellBytes : ℕ → ℕ → List ℕ
-cellBytes b mark = firstCells (clocksFor mark) b ∷ secondCells (clocksFor mark) b ∷ []
 
 -- The cell bytes of a track with its marks.
 unfoldable pub writtenCells : List ℕ → List ℕ → List ℕ

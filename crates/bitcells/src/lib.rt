@@ -1,5 +1,4 @@
 // The drive's bit cells: from them to a track and its marks, and back.
-mod pattern;
 mod reading;
 mod writing;
 

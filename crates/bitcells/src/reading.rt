@@ -4,17 +4,14 @@ ghost use mathlib.Core.Bool.{true};
 ghost use Prim.Native.Nat.{_*_, _≤_};
 ghost use lib.ListN.{length};
 ghost use Rattle.format.specs.Answer.{answerAt};
-ghost use Rattle.format.specs.Judged.{good, answerOf};
+ghost use Rattle.format.specs.Judged.{answerOf};
 ghost use Rattle.format.specs.Written.{trackAfter, marksAfter};
-ghost use Rattle.bitcells.specs.Pattern.{dataIn, legalPattern, markIn};
+ghost use Rattle.pattern.specs.Pattern.{dataIn, legalPattern, markIn};
 ghost use Rattle.bitcells.specs.Each.{eachPattern, judgeEach};
 ghost use Rattle.bitcells.specs.FromCells.{lentFrom, fromCells};
 ghost use Rattle.bitcells.specs.Judging.{judgedFault};
 ghost use Rattle.bitcells.specs.Passed.{Clocked, LegalFrom};
 use crate::Fault;
-use crate::pattern::data_in;
-use crate::pattern::legal_pattern;
-use crate::pattern::mark_in;
 
 // The lesser of two numbers.
 fn lesser(a: u8, b: u8) -> u8
@@ -64,7 +61,7 @@ fn judge_patterns(bit_cells: &[u8]) -> Fault
             continue;
         }
         let at = 2 * i;
-        if !legal_pattern(bit_cells[at], bit_cells[at + 1]) {
+        if !pattern::legal_pattern(bit_cells[at], bit_cells[at + 1]) {
             return Fault::At(i);
         }
         i += 1;
@@ -72,11 +69,10 @@ fn judge_patterns(bit_cells: &[u8]) -> Fault
     Fault::Nowhere
 }
 
-// Writes the track and the marks that legal patterns stand for.
+// Writes the track and the marks that the cell bytes stand for.
 fn write_pair(bit_cells: &[u8], track: &mut [u8], marks: &mut [u8])
     requires { ⌜ length (now «bit_cells») ≡ 2 * length (now track) ⌝ }
     requires { ⌜ length (now marks) ≡ length (now track) ⌝ }
-    requires { ⌜ judgeEach 0 (eachPattern legalPattern (now «bit_cells»)) ≡ good tt ⌝ }
     ensures bytes { λ _. ⌜ now (track .exit) ≡ eachPattern dataIn (now («bit_cells» .entry)) ⌝ }
     ensures marks { λ _. ⌜ now (marks .exit) ≡ eachPattern markIn (now («bit_cells» .entry)) ⌝ }
 {
@@ -86,8 +82,8 @@ fn write_pair(bit_cells: &[u8], track: &mut [u8], marks: &mut [u8])
         let at = 2 * i;
         let x = bit_cells[at];
         let y = bit_cells[at + 1];
-        track[i] = data_in(x, y);
-        marks[i] = mark_in(x, y);
+        track[i] = pattern::data_in(x, y);
+        marks[i] = pattern::mark_in(x, y);
         i += 1;
     }
 }

@@ -4,16 +4,13 @@ ghost use mathlib.Core.Bool.{true};
 ghost use Prim.Native.Nat.{_*_, _≤_};
 ghost use lib.ListN.{length};
 ghost use Rattle.format.specs.Answer.{answerAt};
-ghost use Rattle.format.specs.Judged.{good, answerOf, valueOr};
-ghost use Rattle.format.specs.Lent.{lentForReading};
-ghost use Rattle.bitcells.specs.Pattern.{recordable};
+ghost use Rattle.format.specs.Judged.{answerOf, valueOr};
+ghost use Rattle.pattern.specs.Pattern.{recordable};
 ghost use Rattle.bitcells.specs.Each.{eachByte, judgeEach};
 ghost use Rattle.bitcells.specs.ToCells.{lentTo, writtenCells, toCells};
 ghost use Rattle.bitcells.specs.Judging.{judgedFault};
 ghost use Rattle.bitcells.specs.Passed.{Unmarked, UnmarkedFrom};
 use crate::Fault;
-use crate::pattern::first_cells;
-use crate::pattern::second_cells;
 
 // The greater of two numbers.
 fn greater(a: u8, b: u8) -> u8
@@ -82,7 +79,7 @@ fn can_record(b: u8, mark: u8) -> bool
 
 // Writes the two cell bytes of each byte with its mark.
 fn write_cells(track: &[u8], marks: &[u8], bit_cells: &mut [u8])
-    requires { ⌜ lentForReading (now track) (now marks) ≡ true ⌝ }
+    requires { ⌜ length (now marks) ≡ length (now track) ⌝ }
     requires { ⌜ length (now «bit_cells») ≡ 2 * length (now track) ⌝ }
     ensures { λ _. ⌜ now («bit_cells» .exit) ≡ writtenCells (now (track .entry)) (now (marks .entry)) ⌝ }
 {
@@ -92,8 +89,8 @@ fn write_cells(track: &[u8], marks: &[u8], bit_cells: &mut [u8])
         let b = track[i];
         let mark = marks[i];
         let at = 2 * i;
-        bit_cells[at] = first_cells(b, mark);
-        bit_cells[at + 1] = second_cells(b, mark);
+        bit_cells[at] = pattern::first_cells(b, mark);
+        bit_cells[at + 1] = pattern::second_cells(b, mark);
         i += 1;
     }
 }

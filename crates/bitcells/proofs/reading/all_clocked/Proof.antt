@@ -1,5 +1,4 @@
 -- `all_clocked` meets its contract: the least of the masked bytes is below none of those passed.
-use mathlib.Core.Path.{_≡_}
 use Prim.Native.Nat.{ℕ, _-_, _≤_, _<_}
 use native.Mathlib.Omega.{arith}
 use borrow.Author.Needs.{needs}

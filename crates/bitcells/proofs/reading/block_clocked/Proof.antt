@@ -40,7 +40,7 @@ returns-3 c e =
     let a = c .before .before .before .before .before .args in
     let given = c .before .before .before .before .shared-slice-known .given in
     let bytes : (i : ℕ) → getD (a .bit-cells .now) i 0 < 256 = λ i. omega (arith, given i) in
-    clocked-legal (a .bit-cells .now) (a .p) (2 * a .p + 32 - 2 * a .p) bytes (omega arith) (omega arith) (c .all-clocked .ensures e)
+    clocked-legal (a .bit-cells .now) (a .p) (2 * a .p + 32 - 2 * a .p) bytes (c .all-clocked .ensures e) (omega arith) (omega arith)
 
 pub block-clocked-spec : {M : Type 1} → statement M
 block-clocked-spec =

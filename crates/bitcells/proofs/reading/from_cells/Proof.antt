@@ -1,8 +1,5 @@
 -- `from_cells` meets its contract: 1 and 17 before anything is written, then the track and its marks.
-use mathlib.Core.Path.{_≡_, sym, ap, _∙_}
-use Prim.Native.Nat.{ℕ, _*_}
-use mathlib.Core.Bool.{true}
-use mathlib.Core.List.{List}
+use mathlib.Core.Path.{sym, _∙_}
 use native.Mathlib.Omega.{arith}
 use borrow.Author.Needs.{needs}
 use borrow.Author.Tests.{not-true, not-false}
@@ -43,8 +40,7 @@ write-pair-requires c κs =
     let a = c .before .before .before .before .before .before .before .before .before .before .args in
     let e = sym (c .before .before .before .before .before .before .lent-from .ensures) ∙ not-false _ (c .before .before .before .before .before .if1 .left) in
     let n = from-lengths (a .bit-cells .now) (length (a .track .now)) (length (a .marks .now)) e in
-    let j = rw (c .before .before .enum-told .given .1) at (c .before .before .before .before .judge-patterns .ensures) in
-    (n .0, (n .1, sym j))
+    (omega (arith, n .0, n .1), omega (arith, n .1))
 
 done-requires : tie.Need-done-requires
 done-requires c κs = search needs

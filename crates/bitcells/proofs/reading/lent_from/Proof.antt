@@ -1,10 +1,8 @@
 -- `lent_from` meets its contract.
-use mathlib.Core.Path.{_≡_, sym, _∙_}
-use mathlib.Core.Bool.{true}
+use mathlib.Core.Path.{sym, _∙_}
 use native.Mathlib.Omega.{arith}
 use borrow.Author.Needs.{needs}
 use borrow.Author.Tests.{not-true, not-false}
-use Rattle.format.specs.Lent.{lentForWriting}
 use Rattle.bitcells.specs.FromCells.{lentFrom}
 use Rattle.bitcells.proofs.Lent.{lent-most}
 use Rattle.bitcells.proofs.reading.lent_from.Statement.{statement}

@@ -1,14 +1,12 @@
 -- `write_pair` meets its contract: at each turn the bytes and marks passed are written.
 use mathlib.Core.Path.{_≡_, refl, sym, _∙_}
 use Prim.Native.Nat.{_+_, _-_, _*_, _≤_, _<_}
-use mathlib.Core.Bool.{true, false}
 use native.Mathlib.Omega.{arith}
 use borrow.Author.Needs.{needs}
-use lib.ListN.{length, getD, length-set}
-use Rattle.bitcells.specs.Pattern.{dataIn, legalPattern, markIn}
+use lib.ListN.{length, length-set}
+use Rattle.pattern.specs.Pattern.{dataIn, markIn}
 use Rattle.bitcells.specs.Each.{eachPattern}
 use Rattle.bitcells.proofs.Each.{length-pattern, getD-pattern}
-use Rattle.bitcells.proofs.FirstFault.{each-holds}
 use Rattle.bitcells.proofs.Filled.{filled, filled-more, filled-all}
 use Rattle.bitcells.proofs.reading.write_pair.Statement.{statement}
 use Rattle.bitcells.proofs.reading.write_pair.Tie as tie
@@ -46,13 +44,7 @@ slice-write-track : tie.Need-slice-write-track Inv-loop μ-loop
 slice-write-track c = search needs
 
 mark-in-requires : tie.Need-mark-in-requires Inv-loop μ-loop
-mark-in-requires c κs =
-    let s = c .before .before .before .before .before .before .before .before in
-    let x = s .args .bit-cells .now in
-    let l = c .before .before .before .before .loop in
-    let h : 2 * l .i + 1 < length x = omega arith in
-    sym (getD-pattern legalPattern x (l .i) false h)
-    ∙ each-holds 0 (eachPattern legalPattern x) (s .pre .1 .1) (l .i) (omega (arith, length-pattern legalPattern x))
+mark-in-requires c κs = search needs
 
 slice-write-marks : tie.Need-slice-write-marks Inv-loop μ-loop
 slice-write-marks c = search needs

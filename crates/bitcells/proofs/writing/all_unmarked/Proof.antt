@@ -1,5 +1,4 @@
 -- `all_unmarked` meets its contract: the greatest of the marks is above none of those passed.
-use mathlib.Core.Path.{_≡_}
 use Prim.Native.Nat.{ℕ, _-_, _≤_, _<_}
 use native.Mathlib.Omega.{arith}
 use borrow.Author.Needs.{needs}

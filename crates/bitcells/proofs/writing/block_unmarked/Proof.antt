@@ -34,7 +34,7 @@ all-unmarked-requires c κs = search needs
 returns-3 : tie.Need-returns-3
 returns-3 c e =
     let a = c .before .before .before .before .before .args in
-    part-unmarked (a .marks .now) (a .p) (a .p + 32 - a .p) (omega arith) (omega arith) (c .all-unmarked .ensures e)
+    part-unmarked (a .marks .now) (a .p) (a .p + 32 - a .p) (c .all-unmarked .ensures e) (omega arith) (omega arith)
 
 pub block-unmarked-spec : {M : Type 1} → statement M
 block-unmarked-spec =

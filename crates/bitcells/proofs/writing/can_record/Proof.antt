@@ -1,7 +1,6 @@
 -- `can_record` meets its contract.
-use mathlib.Core.Path.{sym}
 use borrow.Author.Tests.{eq-eqb, ne-eqb}
-use Rattle.bitcells.specs.Pattern.{recordable}
+use Rattle.pattern.specs.Pattern.{recordable}
 use Rattle.bitcells.proofs.writing.can_record.Statement.{statement}
 use Rattle.bitcells.proofs.writing.can_record.Tie as tie
 

@@ -1,11 +1,11 @@
 -- `judge_marked` meets its contract: the first fault is that of what is left.
 use mathlib.Core.Path.{_≡_, refl, sym, _∙_}
-use Prim.Native.Nat.{ℕ, _+_, _-_, _≤_}
+use Prim.Native.Nat.{_-_, _≤_}
 use native.Mathlib.Omega.{arith}
 use borrow.Author.Needs.{needs}
 use borrow.Author.Tests.{not-true, not-false}
-use lib.ListN.{length, drop}
-use Rattle.bitcells.specs.Pattern.{recordable}
+use lib.ListN.{drop}
+use Rattle.pattern.specs.Pattern.{recordable}
 use Rattle.bitcells.specs.Each.{eachByte, judgeEach}
 use Rattle.bitcells.proofs.Each.{length-each}
 use Rattle.bitcells.proofs.FirstFault.{end}

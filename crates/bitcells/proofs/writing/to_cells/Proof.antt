@@ -1,5 +1,6 @@
 -- `to_cells` meets its contract: 1 and 17 before anything is written, then the cell bytes.
-use mathlib.Core.Path.{_≡_, sym, ap, _∙_}
+use mathlib.Core.Path.{sym, _∙_}
+use native.Mathlib.Omega.{arith}
 use borrow.Author.Needs.{needs}
 use borrow.Author.Tests.{not-true, not-false}
 use lib.ListN.{length}
@@ -40,7 +41,9 @@ write-cells-requires : tie.Need-write-cells-requires
 write-cells-requires c κs =
     let a = c .before .before .before .before .before .before .before .before .before .args in
     let e = sym (c .before .before .before .before .before .lent-to .ensures) ∙ not-false _ (c .before .before .before .before .if1 .left) in
-    to-lent (a .track .now) (a .marks .now) (length (a .bit-cells .now)) e
+    let n = to-lent (a .track .now) (a .marks .now) (length (a .bit-cells .now)) e in
+    let m = lent-marks (a .track .now) (a .marks .now) (n .0) in
+    (omega (arith, m), omega (arith, m, n .1))
 
 done-requires : tie.Need-done-requires
 done-requires c κs = search needs

@@ -2,9 +2,9 @@
 use mathlib.Core.Path.{sym, _∙_}
 use native.Mathlib.Omega.{arith}
 use borrow.Author.Tests.{eq-eqb, ne-eqb}
-use Rattle.bitcells.proofs.Masks.{legal-clocked, legal-missing}
-use Rattle.bitcells.proofs.pattern.legal_pattern.Statement.{statement}
-use Rattle.bitcells.proofs.pattern.legal_pattern.Tie as tie
+use Rattle.pattern.proofs.Masks.{legal-clocked, legal-missing}
+use Rattle.pattern.proofs.legal_pattern.Statement.{statement}
+use Rattle.pattern.proofs.legal_pattern.Tie as tie
 
 returns : tie.Need-returns
 returns c = let a = c .before .args in sym (legal-clocked (a .x) (a .y) (omega arith) (omega arith) (c .if1 .taken))

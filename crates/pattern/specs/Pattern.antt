@@ -46,6 +46,10 @@ clocksFor mark = pick (eqb mark 0) allClocks markedClocks
 unfoldable pub recordable : ℕ → ℕ → Bool
 recordable b mark = eqb mark 0 || eqb b 0xFF
 
+-- The two cell bytes of a byte with its mark.
+unfoldable pub cellBytes : ℕ → ℕ → List ℕ
+cellBytes b mark = firstCells (clocksFor mark) b ∷ secondCells (clocksFor mark) b ∷ []
+
 -- The clock cells among bit cells: every second one from the first on.
 unfoldable pub clockCells : List ℕ → List ℕ
 clockCells [] = []

@@ -9,7 +9,7 @@ use lib.Dec.{lit<}
 use Rattle.crc.specs.Check.{digits, coefficients}
 use Rattle.crc.specs.Division.{value}
 use Rattle.crc.proofs.Value.{value-byte}
-use Rattle.bitcells.specs.Pattern.{alternating, asByte, bitCells, firstCells, secondCells, clockCells, dataCells, clocksIn, dataIn}
+use Rattle.pattern.specs.Pattern.{alternating, asByte, bitCells, firstCells, secondCells, clockCells, dataCells, clocksIn, dataIn}
 
 -- A byte is the byte of its eight bits.
 byte-digits : (b : ℕ) → b < 256 → asByte (digits 8 b) ≡ b
@@ -113,18 +113,8 @@ second-read x y h =
     ∙ ap asByte (second-among x y)
     ∙ byte-digits y h
 
--- What is read and what is written are bytes.
+-- The data that are read are a byte.
 pub data-byte : (x y : ℕ) → dataIn x y < 256
 unfolding dataIn dataCells digits value
 data-byte x y =
     omega (arith, bit (x / 64), bit (x / 16), bit (x / 4), bit (x / 1), bit (y / 64), bit (y / 16), bit (y / 4), bit (y / 1))
-
-pub first-byte : (k b : ℕ) → firstCells k b < 256
-unfolding firstCells bitCells alternating digits value
-first-byte k b =
-    omega (arith, bit (k / 128), bit (b / 128), bit (k / 64), bit (b / 64), bit (k / 32), bit (b / 32), bit (k / 16), bit (b / 16))
-
-pub second-byte : (k b : ℕ) → secondCells k b < 256
-unfolding secondCells bitCells alternating digits value
-second-byte k b =
-    omega (arith, bit (k / 8), bit (b / 8), bit (k / 4), bit (b / 4), bit (k / 2), bit (b / 2), bit (k / 1), bit (b / 1))

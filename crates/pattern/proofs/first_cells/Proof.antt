@@ -1,9 +1,12 @@
 -- `first_cells` meets its contract.
 use native.Mathlib.Omega.{arith}
-use Rattle.bitcells.proofs.Masks.{first-is}
+use borrow.Author.Tests.{eq-eqb, ne-eqb}
+use Rattle.crc.specs.Check.{digits}
+use Rattle.crc.specs.Division.{value}
+use Rattle.pattern.specs.Pattern.{firstCells, clocksFor, bitCells, alternating}
 use borrow.Author.Needs.{needs}
-use Rattle.bitcells.proofs.pattern.first_cells.Statement.{statement}
-use Rattle.bitcells.proofs.pattern.first_cells.Tie as tie
+use Rattle.pattern.proofs.first_cells.Statement.{statement}
+use Rattle.pattern.proofs.first_cells.Tie as tie
 
 mul-data : tie.Need-mul-data
 mul-data c = search needs
@@ -23,17 +26,16 @@ add-data-2 c = search needs
 add-data-3 : tie.Need-add-data-3
 add-data-3 c = search needs
 
-mul-result : tie.Need-mul-result
-mul-result c = search needs
-
-sub-result : tie.Need-sub-result
-sub-result c = search needs
-
 add-result : tie.Need-add-result
 add-result c = search needs
 
 returns : tie.Need-returns
-returns c = first-is (c .args .b) (c .args .mark) (omega arith)
+unfolding firstCells clocksFor bitCells alternating digits value
+returns c = rw (eq-eqb _ _ (c .if1 .taken)) (omega arith)
+
+returns-2 : tie.Need-returns-2
+unfolding firstCells clocksFor bitCells alternating digits value
+returns-2 c = rw (ne-eqb _ _ (c .if1 .left)) (omega arith)
 
 pub first-cells-spec : {M : Type 1} → statement M
 first-cells-spec =
@@ -45,7 +47,6 @@ first-cells-spec =
     mul-data-3
     add-data-2
     add-data-3
-    mul-result
-    sub-result
     add-result
-    returns)
+    returns
+    returns-2)

@@ -1,6 +1,6 @@
 -- The clocks of a cell byte are the bits of AA: what the code's masks and digits say of a pattern.
 use mathlib.Core.Path.{_≡_, refl, sym, ap, ap₂, _∙_}
-use Prim.Native.Nat.{ℕ, zero, suc, _+_, _-_, _*_, _/_, _%_, _≤_, _<_}
+use Prim.Native.Nat.{ℕ, zero, suc, _+_, _-_, _*_, _/_, _%_, _<_}
 use native.Mathlib.Omega.{arith}
 use native.Mathlib.Nat.{mod-lt}
 use mathlib.Core.Bool.{Bool, true, false, _&&_}
@@ -9,9 +9,9 @@ use lib.Dec.{eqb, lit<}
 use borrow.Author.Tests.{eqb-true, eqb-false, eq-eqb, ne-eqb}
 use Rattle.crc.specs.Check.{digits}
 use Rattle.crc.specs.Division.{value}
-use Rattle.format.proofs.Judged.{cases, and-both, and-make, and-false}
-use Rattle.bitcells.specs.Pattern.{alternating, bitCells, firstCells, secondCells, clocksFor, clockCells, dataCells, clocksIn, dataIn, legalPattern, markIn}
-use Rattle.bitcells.proofs.Inverse.{first-read, second-read}
+use Rattle.format.proofs.Judged.{cases, and-both}
+use Rattle.pattern.specs.Pattern.{alternating, bitCells, firstCells, secondCells, clockCells, dataCells, clocksIn, dataIn, legalPattern}
+use Rattle.pattern.proofs.Inverse.{first-read, second-read}
 
 -- The test f holds of every number below n.
 below : ℕ → (ℕ → Bool) → Bool
@@ -104,36 +104,3 @@ module _ (x y : ℕ) (hx : x < 256) (hy : y < 256) where
   -- Where one of them is missing, only 55 7F is legal.
   pub legal-missing : (bitAnd x 0xAA ≡ 0xAA → ⊥) → legalPattern x y ≡ (eqb x 0x55 && eqb y 0x7F)
   legal-missing ne = legal-other (λ c. ne (all-clocks c .0))
-
-  -- The first clock of a legal pattern tells its mark.
-  pub mark-first : legalPattern x y ≡ true → 1 - x / 128 ≡ markIn x y
-  unfolding markIn value
-  mark-first l =
-      cases (eqb (clocksIn x y) 255)
-      (λ e.
-      let m : clockBits x ≡ 0xAA = sym (mask-clocks x hx) ∙ all-clocks (eqb-true (clocksIn x y) 255 e) .0 in
-      rw e (omega (arith, m, bit (x / 128), bit (x / 32), bit (x / 8), bit (x / 2))))
-      (λ e.
-      let o = sym (legal-other (eqb-false (clocksIn x y) 255 e)) ∙ l in
-      let q : x ≡ 0x55 = eqb-true x 0x55 (and-both (eqb x 0x55) (eqb y 0x7F) o .0) in
-      rw e (omega arith))
-
--- The data byte by its digits.
-pub data-is : (x y : ℕ) → (x / 64 % 2 * 8 + x / 16 % 2 * 4 + x / 4 % 2 * 2 + x % 2) * 16 + (y / 64 % 2 * 8 + y / 16 % 2 * 4 + y / 4 % 2 * 2 + y % 2) ≡ dataIn x y
-unfolding dataIn dataCells digits value
-data-is x y = omega arith
-
--- The cell bytes of a byte with its mark by the byte's digits.
-pub first-is : (b mark : ℕ) → mark ≤ 1 → 0xAA - mark * 0xAA + (b / 128 % 2 * 64 + b / 64 % 2 * 16 + b / 32 % 2 * 4 + b / 16 % 2) ≡ firstCells (clocksFor mark) b
-unfolding firstCells clocksFor bitCells alternating digits value
-first-is b mark l =
-    cases (eqb mark 0)
-    (λ e. let z = eqb-true mark 0 e in rw e (omega arith))
-    (λ e. let ne = eqb-false mark 0 e in rw e (omega arith))
-
-pub second-is : (b mark : ℕ) → mark ≤ 1 → 0xAA - mark * 0x80 + (b / 8 % 2 * 64 + b / 4 % 2 * 16 + b / 2 % 2 * 4 + b % 2) ≡ secondCells (clocksFor mark) b
-unfolding secondCells clocksFor bitCells alternating digits value
-second-is b mark l =
-    cases (eqb mark 0)
-    (λ e. let z = eqb-true mark 0 e in rw e (omega arith))
-    (λ e. let ne = eqb-false mark 0 e in rw e (omega arith))

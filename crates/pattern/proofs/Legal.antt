@@ -1,14 +1,14 @@
 -- Which patterns are legal: those that a recordable byte is written with, and no others.
-use mathlib.Core.Path.{_≡_, refl, sym, ap, _∙_}
+use mathlib.Core.Path.{_≡_, sym, _∙_}
 use Prim.Native.Nat.{ℕ, _<_}
 use native.Mathlib.Omega.{arith}
-use mathlib.Core.Bool.{Bool, true, false, _&&_, _||_}
+use mathlib.Core.Bool.{true}
 use lib.Dec.{eqb}
-use borrow.Author.Tests.{eqb-true, eqb-false, eq-eqb}
+use borrow.Author.Tests.{eqb-true, eqb-false}
 use Rattle.crc.specs.Division.{value}
-use Rattle.format.proofs.Judged.{cases, false-true, and-both}
-use Rattle.bitcells.specs.Pattern.{firstCells, secondCells, allClocks, markedClocks, clocksFor, recordable, clocksIn, dataIn, legalPattern, markIn}
-use Rattle.bitcells.proofs.Inverse.{clocks-written, data-written}
+use Rattle.format.proofs.Judged.{cases, and-both}
+use Rattle.pattern.specs.Pattern.{firstCells, secondCells, allClocks, clocksFor, recordable, clocksIn, dataIn, legalPattern, markIn}
+use Rattle.pattern.proofs.Inverse.{clocks-written, data-written}
 
 -- The clocks that a mark asks for are a byte.
 clocks-byte : (mark : ℕ) → clocksFor mark < 256

@@ -1,0 +1,2 @@
+-- The bit cells of one byte.
+pub mod Pattern
