@@ -1,8 +1,8 @@
 -- Cells as a track and its marks, and back.
 use mathlib.Core.Path.{_≡_, refl, sym, ap, ap₂, _∙_}
-use Prim.Native.Nat.{ℕ, zero, suc, _/_, _%_, min}
+use Prim.Native.Nat.{ℕ, zero, suc, _/_, _%_, _<_, min}
 use native.Mathlib.Omega.{arith}
-use mathlib.Core.Bool.{Bool, true, _&&_}
+use mathlib.Core.Bool.{Bool, true, _&&_, _||_}
 use mathlib.Core.List.{List, [], _∷_, map}
 use lib.ListN.{length, take, drop, length-map}
 use lib.Dec.{ltb, leb, eqb}
@@ -10,7 +10,7 @@ use borrow.Author.Tests.{ltb-true, lt-ltb, eqb-true, eq-eqb}
 use Rattle.format.specs.Answer.{lentWrong, markStray}
 use Rattle.format.specs.Judged.{Judged, good}
 use Rattle.format.specs.Lent.{lengthRight, marksLegal, lentForWriting, lentForReading, cells, bytesOf, marksOf, unmarked}
-use Rattle.format.specs.Opening.{startsWith, markedOpening, opens}
+use Rattle.format.specs.Opening.{startsWith, markedFF, markedOpening, opens}
 use Rattle.format.specs.Accept.{judgeMarks, Accepted, firstCountEnd, acceptCells, accept}
 use Rattle.format.specs.Written.{Pair, asPair}
 use Rattle.format.proofs.Judged.{cases, false-true, and-both, and-make, good-inj, then-good, require-good}
@@ -85,49 +85,60 @@ unfolding bytesOf unmarked
 unmarked-bytes [] = refl
 unmarked-bytes (x ∷ c) = and-make (lt-ltb (x % 256) 256 (omega arith)) (unmarked-bytes c)
 
--- Every cell is a byte, marked or not.
-unfoldable pub cellsRight : List ℕ → Bool
-cellsRight [] = true
-cellsRight (x ∷ c) = ltb x 512 && cellsRight c
+-- A cell can be recorded: it is an unmarked byte, or FF with its mark.
+unfoldable pub cellRecordable : ℕ → Bool
+cellRecordable x = ltb x 256 || eqb x markedFF
 
--- The marks of right cells are 0 or 1.
-pub legal-right : (c : List ℕ) → cellsRight c ≡ true → marksLegal (marksOf c) ≡ true
-unfolding cellsRight marksLegal marksOf
-legal-right [] e = refl
-legal-right (x ∷ c) e =
-    let h = and-both (ltb x 512) (cellsRight c) e in
-    and-make (lt-ltb (x / 256) 2 (omega (arith, ltb-true x 512 (h .0)))) (legal-right c (h .1))
+-- Every cell can be recorded.
+unfoldable pub cellsRecordable : List ℕ → Bool
+cellsRecordable [] = true
+cellsRecordable (x ∷ c) = cellRecordable x && cellsRecordable c
 
-right-behind : (o c : List ℕ) → cellsRight o ≡ true → startsWith o c ≡ true → cellsRight (drop (length o) c) ≡ true → cellsRight c ≡ true
-unfolding cellsRight
-right-behind [] c r e h = h
-right-behind (x ∷ o) [] r e h = false-true e
-right-behind (x ∷ o) (y ∷ c) r e h =
+mark-recordable : (x : ℕ) → cellRecordable x ≡ true → x < 512
+unfolding cellRecordable
+mark-recordable x e =
+    cases (ltb x 256)
+    (λ b. omega (arith, ltb-true x 256 b))
+    (λ b. omega (arith, eqb-true x markedFF (rw b at e)))
+
+-- The marks of such cells are 0 or 1.
+pub legal-recordable : (c : List ℕ) → cellsRecordable c ≡ true → marksLegal (marksOf c) ≡ true
+unfolding cellsRecordable marksLegal marksOf
+legal-recordable [] e = refl
+legal-recordable (x ∷ c) e =
+    let h = and-both (cellRecordable x) (cellsRecordable c) e in
+    and-make (lt-ltb (x / 256) 2 (omega (arith, mark-recordable x (h .0)))) (legal-recordable c (h .1))
+
+recordable-behind : (o c : List ℕ) → cellsRecordable o ≡ true → startsWith o c ≡ true → cellsRecordable (drop (length o) c) ≡ true → cellsRecordable c ≡ true
+unfolding cellsRecordable
+recordable-behind [] c r e h = h
+recordable-behind (x ∷ o) [] r e h = false-true e
+recordable-behind (x ∷ o) (y ∷ c) r e h =
     let k = and-both (eqb x y) (startsWith o c) e in
-    let l = and-both (ltb x 512) (cellsRight o) r in
-    and-make (ap (λ (z : ℕ). ltb z 512) (sym (eqb-true x y (k .0))) ∙ l .0) (right-behind o c (l .1) (k .1) h)
+    let l = and-both (cellRecordable x) (cellsRecordable o) r in
+    and-make (ap cellRecordable (sym (eqb-true x y (k .0))) ∙ l .0) (recordable-behind o c (l .1) (k .1) h)
 
--- Where no mark is stray, every cell is a byte, marked or not.
-pub right-marks : (e k q : ℕ) (c : List ℕ) → judgeMarks e k q c ≡ good tt → cellsRight (drop k c) ≡ true
-unfolding judgeMarks opens cellsRight
-right-marks e zero q [] h = refl
-right-marks e (suc k) q [] h = refl
-right-marks e zero q (x ∷ c) h =
+-- Where no mark is stray, every cell can be recorded.
+pub recordable-marks : (e k q : ℕ) (c : List ℕ) → judgeMarks e k q c ≡ good tt → cellsRecordable (drop k c) ≡ true
+unfolding judgeMarks opens cellRecordable cellsRecordable
+recordable-marks e zero q [] h = refl
+recordable-marks e (suc k) q [] h = refl
+recordable-marks e zero q (x ∷ c) h =
     cases (opens (x ∷ c) && leb e q)
     (λ b.
-    let ih : cellsRight (drop 7 c) ≡ true = right-marks e 7 (suc q) c (rw b at h) in
-    right-behind markedOpening (x ∷ c) refl (and-both (opens (x ∷ c)) (leb e q) b .0) ih)
+    let ih : cellsRecordable (drop 7 c) ≡ true = recordable-marks e 7 (suc q) c (rw b at h) in
+    recordable-behind markedOpening (x ∷ c) refl (and-both (opens (x ∷ c)) (leb e q) b .0) ih)
     (λ b.
     let r = require-good (ltb x 256) (markStray q) (judgeMarks e 0 (suc q) c) tt (rw b at h) in
-    and-make (lt-ltb x 512 (omega (arith, ltb-true x 256 (r .0)))) (right-marks e zero (suc q) c (r .1)))
-right-marks e (suc k) q (x ∷ c) h = right-marks e k (suc q) c h
+    and-make (ap (λ (z : Bool). z || eqb x markedFF) (r .0)) (recordable-marks e zero (suc q) c (r .1)))
+recordable-marks e (suc k) q (x ∷ c) h = recordable-marks e k (suc q) c h
 
 -- The bytes and marks of an accepted track of the right length are lent within the rule,
 pub lent-pair : (c : List ℕ) (a : Accepted) → lengthRight (length c) ≡ true → acceptCells c ≡ good a → lentForReading (bytesOf c) (marksOf c) ≡ true
 unfolding lentForReading lentForWriting
 lent-pair c a l e =
-    let r : cellsRight c ≡ true = right-marks (firstCountEnd (a .home .place)) 0 0 c (accepted-by c a e .marks-judged) in
-    rw (length-bytes c, length-marks c, l, eq-eqb (length c) (length c) refl, legal-right c r)
+    let r : cellsRecordable c ≡ true = recordable-marks (firstCountEnd (a .home .place)) 0 0 c (accepted-by c a e .marks-judged) in
+    rw (length-bytes c, length-marks c, l, eq-eqb (length c) (length c) refl, legal-recordable c r)
 
 -- and accepted as the track is.
 pub accept-pair : (c : List ℕ) (a : Accepted) → lengthRight (length c) ≡ true → acceptCells c ≡ good a → accept (bytesOf c) (marksOf c) ≡ good a

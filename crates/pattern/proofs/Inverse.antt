@@ -32,7 +32,8 @@ digits-byte a b c d e f g h ha hb hc hd he hf hg hh =
     let q7 : n / 1 % 2 ≡ h = omega arith in
     rw (q0, q1, q2, q3, q4, q5, q6, q7)
 
-bit : (n : ℕ) → n % 2 < 2
+-- A remainder by two is a bit.
+pub bit : (n : ℕ) → n % 2 < 2
 bit n = mod-lt n (lit< tt)
 
 -- The bits of the first cell byte are the first eight bit cells,

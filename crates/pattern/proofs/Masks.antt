@@ -2,16 +2,15 @@
 use mathlib.Core.Path.{_≡_, refl, sym, ap, ap₂, _∙_}
 use Prim.Native.Nat.{ℕ, zero, suc, _+_, _-_, _*_, _/_, _%_, _<_}
 use native.Mathlib.Omega.{arith}
-use native.Mathlib.Nat.{mod-lt}
 use mathlib.Core.Bool.{Bool, true, false, _&&_}
 use lib.Bits.{bitAnd}
-use lib.Dec.{eqb, lit<}
+use lib.Dec.{eqb}
 use borrow.Author.Tests.{eqb-true, eqb-false, eq-eqb, ne-eqb}
 use Rattle.crc.specs.Check.{digits}
 use Rattle.crc.specs.Division.{value}
 use Rattle.format.proofs.Judged.{cases, and-both}
 use Rattle.pattern.specs.Pattern.{alternating, bitCells, firstCells, secondCells, clockCells, dataCells, clocksIn, dataIn, legalPattern}
-use Rattle.pattern.proofs.Inverse.{first-read, second-read}
+use Rattle.pattern.proofs.Inverse.{bit, first-read, second-read}
 
 -- The test f holds of every number below n.
 below : ℕ → (ℕ → Bool) → Bool
@@ -35,9 +34,6 @@ clockBits x = x / 128 % 2 * 128 + x / 32 % 2 * 32 + x / 8 % 2 * 8 + x / 2 % 2 * 
 mask-clocks : (x : ℕ) → x < 256 → bitAnd x 0xAA ≡ clockBits x
 unfolding below
 mask-clocks x l = eqb-true (bitAnd x 0xAA) (clockBits x) (below-each 256 (λ z. eqb (bitAnd z 0xAA) (clockBits z)) refl x l)
-
-bit : (n : ℕ) → n % 2 < 2
-bit n = mod-lt n (lit< tt)
 
 -- The cell bytes of FF without its first five clocks are 55 7F.
 first-marked : firstCells 7 255 ≡ 0x55
