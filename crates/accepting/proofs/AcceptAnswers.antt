@@ -17,7 +17,7 @@ use Rattle.format.specs.Block.{keyOffset, dataOffset, blocksFit, keyRight, data
 use Rattle.format.specs.Span.{none}
 use Rattle.format.specs.Sector.{openingLength, isFirst, sectorIn, settle, judgeCount, readBlocks, judgeSector, readSpan}
 use Rattle.format.specs.Accept.{readSpans}
-use Rattle.format.proofs.Judged.{cases}
+use Rattle.base.proofs.Tests.{cases}
 
 -- An outcome whose answer is not 0 is a refusal, and what would follow is not reached.
 pub refusal-stays : {A B : Type 0} (j : Judged A) (k : A → Judged B) → (answerOf j .number ≡ 0 → ⊥) → answerOf (then j k) ≡ answerOf j

@@ -16,11 +16,11 @@ use Rattle.format.specs.Count.{Settled, unsettled, countNumber}
 use Rattle.format.specs.Span.{beforeOpening, laterSpans, spans, none}
 use Rattle.format.specs.Sector.{Sector, openingLength, isFirst, sectorIn, settle, judgeSector, readSpan}
 use Rattle.format.specs.Accept.{judgeMarks, readSpans, Placed, placedFrom, among, judgeNumbers, Accepted, spansOf, firstCountEnd, judgeBehind, acceptCells, accept}
-use Rattle.format.proofs.Judged.{and-both}
-use Rattle.format.proofs.ReadSector.{read-inv}
-use Rattle.format.proofs.ReadsAs.{Reads, read-reads, reads-read}
-use Rattle.format.proofs.Marks.{marks-clean}
-use Rattle.format.proofs.StrayMark.{marks-stray}
+use Rattle.base.proofs.Tests.{and-both}
+use Rattle.format.proofs.Sector.ReadSector.{read-inv}
+use Rattle.format.proofs.Sector.ReadsAs.{Reads, read-reads, reads-read}
+use Rattle.format.proofs.Spans.Marks.{marks-clean}
+use Rattle.format.proofs.Spans.StrayMark.{marks-stray}
 use Rattle.accepting.specs.Accepting.{NoStrayMark, numbersIn}
 use Rattle.accepting.proofs.AcceptAnswers.{refusal-stays, require-zero, answer-then, sector-zero}
 use Rattle.accepting.proofs.AcceptFirst.{opens-first}

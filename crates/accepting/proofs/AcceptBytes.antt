@@ -5,8 +5,8 @@ use native.Mathlib.Omega.{arith}
 use mathlib.Core.List.{List}
 use lib.ListN.{length, getD, take, drop, length-take, length-drop}
 use Rattle.format.specs.Lent.{cells, bytesOf}
-use Rattle.format.proofs.Opening.{unmarked-take, unmarked-drop, unmarked-below}
-use Rattle.format.proofs.Pairs.{bytes-cells, length-cells, drop-cells}
+use Rattle.format.proofs.Cells.Opening.{unmarked-take, unmarked-drop, unmarked-below}
+use Rattle.format.proofs.Track.Pairs.{bytes-cells, length-cells, drop-cells}
 use Rattle.search.proofs.Cells.{take-cells}
 
 -- The bytes of k cells from place n on are those of the track.

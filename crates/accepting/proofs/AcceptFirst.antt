@@ -13,18 +13,18 @@ use Rattle.format.specs.Opening.{startsWith, plainOpening}
 use Rattle.format.specs.Address.{Address, addressIn}
 use Rattle.format.specs.Home.{Home}
 use Rattle.format.specs.Count.{unsettled, settled}
-use Rattle.format.specs.Span.{runsToIndex, spanLength, afterOpening, beforeOpening, laterSpans, spans, joined, none}
+use Rattle.format.specs.Span.{runsToIndex, spanLength, afterOpening, beforeOpening, laterSpans, spans, joined, none, cleanSpan, cleanSpans}
 use Rattle.format.specs.Sector.{sectorIn, settle, judgeSector, readSpan}
 use Rattle.format.specs.Accept.{readSpans}
-use Rattle.format.proofs.Judged.{and-both}
-use Rattle.format.proofs.Lists.{part-all}
-use Rattle.format.proofs.Shape.{cleanSpan, cleanSpans, FirstReaches}
-use Rattle.format.proofs.Opening.{starts-with-append}
-use Rattle.format.proofs.Cutting.{before-joined, before-whole, shape-spans, shape-later, later-joined}
-use Rattle.format.proofs.Marks.{marks-clean}
-use Rattle.format.proofs.SpanAgrees.{span-agrees}
-use Rattle.format.proofs.Pairs.{length-cells, drop-cells}
-use Rattle.format.proofs.CandidateBytes.{after-bytes}
+use Rattle.base.proofs.Tests.{and-both}
+use Rattle.base.proofs.Lists.{part-all}
+use Rattle.format.proofs.Spans.Shape.{FirstReaches}
+use Rattle.format.proofs.Cells.Opening.{starts-with-append}
+use Rattle.format.proofs.Spans.Cutting.{before-joined, before-whole, shape-spans, shape-later, later-joined}
+use Rattle.format.proofs.Spans.Marks.{marks-clean}
+use Rattle.format.proofs.Spans.SpanAgrees.{span-agrees}
+use Rattle.format.proofs.Track.Pairs.{length-cells, drop-cells}
+use Rattle.format.proofs.Find.CandidateBytes.{after-bytes}
 use Rattle.sector.proofs.Opening.{plain-length}
 use Rattle.accepting.specs.Accepting.{Rest, NoStrayMark}
 use Rattle.accepting.proofs.AcceptAnswers.{refusal-stays, answer-then, sector-zero}

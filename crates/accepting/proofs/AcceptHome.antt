@@ -8,7 +8,7 @@ use Rattle.format.specs.Answer.{homeMissing, homeCheckWrong}
 use Rattle.format.specs.Judged.{good, refused}
 use Rattle.format.specs.Lent.{cells}
 use Rattle.format.specs.Home.{findHome, homeBytes, homeOf, judgeHomeOf, judgeHome}
-use Rattle.format.proofs.Pairs.{length-bytes}
+use Rattle.format.proofs.Track.Pairs.{length-bytes}
 use Rattle.sector.proofs.Opening.{closed-short}
 use Rattle.accepting.specs.declared.home.HomeJudged.{HomeJudged}
 use Rattle.accepting.specs.declared.home.HomeJudged.the-variants.{Right, Refused}

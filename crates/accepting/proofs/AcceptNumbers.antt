@@ -13,15 +13,14 @@ use Rattle.format.specs.Judged.{Judged, good, refused, require}
 use Rattle.format.specs.Lent.{cells, unmarked}
 use Rattle.format.specs.Opening.{startsWith, plainOpening}
 use Rattle.format.specs.Count.{countNumber}
-use Rattle.format.specs.Span.{spanLength, afterOpening, beforeOpening, laterSpans, spans}
+use Rattle.format.specs.Span.{spanLength, afterOpening, beforeOpening, laterSpans, spans, cleanSpan, cleanSpans}
 use Rattle.format.specs.Sector.{openingLength}
 use Rattle.format.specs.Accept.{among}
-use Rattle.format.proofs.Judged.{cases, and-both}
-use Rattle.format.proofs.Shape.{cleanSpan, cleanSpans}
-use Rattle.format.proofs.Opening.{unmarked-at, unmarked-drop}
-use Rattle.format.proofs.Marks.{marks-clean}
-use Rattle.format.proofs.Pairs.{drop-cells}
-use Rattle.format.proofs.CandidateBytes.{after-bytes}
+use Rattle.base.proofs.Tests.{cases, and-both}
+use Rattle.format.proofs.Cells.Opening.{unmarked-at, unmarked-drop}
+use Rattle.format.proofs.Spans.Marks.{marks-clean}
+use Rattle.format.proofs.Track.Pairs.{drop-cells}
+use Rattle.format.proofs.Find.CandidateBytes.{after-bytes}
 use Rattle.sectors.specs.Stepped.{Stepped, steppedIn, restAt, steppedAt}
 use Rattle.accepting.specs.Accepting.{Rest, NoStrayMark, numbersIn}
 use Rattle.accepting.proofs.AcceptSpans.{Front, front, no-span}

@@ -14,15 +14,15 @@ use Rattle.format.specs.Count.{Settled, settled}
 use Rattle.format.specs.Sector.{judgeSector}
 use Rattle.format.specs.Accept.{readSpans}
 use Rattle.format.specs.Lent.{cells}
-use Rattle.format.specs.Span.{runsToIndex, spanLength, afterOpening, beforeOpening, laterSpans, joined, none}
-use Rattle.format.proofs.Judged.{and-both}
-use Rattle.format.proofs.Lists.{none-long, part-all}
-use Rattle.format.proofs.Shape.{Shape, cleanSpan, cleanSpans}
-use Rattle.format.proofs.Opening.{length-opens}
-use Rattle.format.proofs.Cutting.{before-joined, shape-later, later-joined}
-use Rattle.format.proofs.SpanAgrees.{span-agrees}
-use Rattle.format.proofs.Pairs.{length-cells, drop-cells}
-use Rattle.format.proofs.CandidateBytes.{after-bytes}
+use Rattle.format.specs.Span.{runsToIndex, spanLength, afterOpening, beforeOpening, laterSpans, joined, none, cleanSpan, cleanSpans}
+use Rattle.base.proofs.Tests.{and-both}
+use Rattle.base.proofs.Lists.{none-long, part-all}
+use Rattle.format.proofs.Spans.Shape.{Shape}
+use Rattle.format.proofs.Cells.Opening.{length-opens}
+use Rattle.format.proofs.Spans.Cutting.{before-joined, shape-later, later-joined}
+use Rattle.format.proofs.Spans.SpanAgrees.{span-agrees}
+use Rattle.format.proofs.Track.Pairs.{length-cells, drop-cells}
+use Rattle.format.proofs.Find.CandidateBytes.{after-bytes}
 use Rattle.accepting.specs.Accepting.{Rest}
 use Rattle.accepting.proofs.AcceptAnswers.{spans-refused, spans-good}
 

@@ -4,15 +4,14 @@ use Prim.Native.Nat.{ℕ, suc, _+_, _≤_}
 use mathlib.Core.Bool.{true, not}
 use mathlib.Core.List.{List, [], _∷_}
 use lib.ListN.{length, drop}
-use Rattle.format.specs.Answer.{answerAt, sectorRepeated}
+use Rattle.format.specs.Answer.{asAnswer, sectorRepeated}
 use Rattle.format.specs.Judged.{Judged, good, refused, require}
 use Rattle.format.specs.Lent.{cells}
 use Rattle.format.specs.Home.{Home}
 use Rattle.format.specs.Count.{countNumber}
-use Rattle.format.specs.Span.{beforeOpening, laterSpans}
+use Rattle.format.specs.Span.{beforeOpening, laterSpans, cleanSpans}
 use Rattle.format.specs.Sector.{openingLength, isFirst}
 use Rattle.format.specs.Accept.{judgeMarks, among}
-use Rattle.format.proofs.Shape.{cleanSpans}
 use Rattle.sector.specs.As.{asHome}
 use Rattle.accepting.specs.declared.home.HomeJudged.{HomeJudged}
 use Rattle.accepting.specs.declared.home.HomeJudged.the-variants.{Right, Refused}
@@ -22,7 +21,7 @@ use Rattle.accepting.specs.declared.Judged.the-variants.{Accepted, Refus
 -- The home, or the answer that refuses it.
 abbrev pub judgedHome : HomeJudged → Judged Home
 judgedHome (Right h) = good (asHome h)
-judgedHome (Refused a) = refused (answerAt (a .number) (a .place))
+judgedHome (Refused a) = refused (asAnswer a)
 
 -- A home that is right starts at place p.
 abbrev pub homeStandsAt : ℕ → HomeJudged → Type 0
@@ -58,7 +57,7 @@ numbersIn seen i p (g ∷ gs) =
 -- The home of an accepted track, or the answer that refuses the track.
 abbrev pub judgedTrack : JudgedCode → Judged Home
 judgedTrack (Accepted h) = good (asHome h)
-judgedTrack (RefusedTrack a) = refused (answerAt (a .number) (a .place))
+judgedTrack (RefusedTrack a) = refused (asAnswer a)
 
 -- The home of an accepted track starts in its window, 23 to 37.
 abbrev pub trackInWindow : JudgedCode → Type 0

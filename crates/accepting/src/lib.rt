@@ -4,7 +4,7 @@ ghost use mathlib.Core.Bool.{true};
 ghost use mathlib.Core.List.{[]};
 ghost use Prim.Native.Nat.{_≤_};
 ghost use lib.ListN.{drop};
-ghost use Rattle.format.specs.Answer.{answerAt};
+ghost use Rattle.format.specs.Answer.{asAnswer};
 ghost use Rattle.format.specs.Judged.{answerOf, good, then};
 ghost use Rattle.format.specs.Lent.{lentForReading, cells};
 ghost use Rattle.format.specs.Opening.{startsWith, plainOpening};
@@ -27,7 +27,7 @@ pub use home::judge_home;
 // The answer for a sector in position i and at place p by what follows its count's opening: 9, 7, 8, then 9, 10, 11.
 fn judge_sector(h: Home, i: usize, x: Named, p: usize, last: bool, r: &[u8]) -> format::Answer
     requires { ⌜ p ≤ 4002 ⌝ }
-    ensures { λ a. ⌜ answerAt (a .number) (a .place) ≡ answerOf (judgeSector (asHome h) i (asSettled x) p last (now (r .entry))) ⌝ }
+    ensures { λ a. ⌜ asAnswer a ≡ answerOf (judgeSector (asHome h) i (asSettled x) p last (now (r .entry))) ⌝ }
 {
     let a = sector::judge_count(h, i, x, p, r);
     if a.number != 0 {
@@ -39,7 +39,7 @@ fn judge_sector(h: Home, i: usize, x: Named, p: usize, last: bool, r: &[u8]) -> 
 // The answer for the sectors from the odd one at the front of what is left on: its B8 is 1.
 fn judge_odd(track: &[u8], marks: &[u8], p: usize, h: Home, named: Address) -> format::Answer
     requires { ⌜ Rest p (now track) (now marks) ⌝ }
-    ensures { λ a. ⌜ answerAt (a .number) (a .place) ≡ answerOf (readSpans (asHome h) 1 (settled (asAddress named)) p (laterSpans (cells (now (track .entry)) (now (marks .entry))))) ⌝ }
+    ensures { λ a. ⌜ asAnswer a ≡ answerOf (readSpans (asHome h) 1 (settled (asAddress named)) p (laterSpans (cells (now (track .entry)) (now (marks .entry))))) ⌝ }
 {
     if track.len() == 0 {
         return format::done();
@@ -56,7 +56,7 @@ fn judge_odd(track: &[u8], marks: &[u8], p: usize, h: Home, named: Address) -> f
 // The answer for the sectors from the even one at the front of what is left on: its B8 is 0.
 fn judge_even(track: &[u8], marks: &[u8], p: usize, h: Home, named: Address) -> format::Answer
     requires { ⌜ Rest p (now track) (now marks) ⌝ }
-    ensures { λ a. ⌜ answerAt (a .number) (a .place) ≡ answerOf (readSpans (asHome h) 2 (settled (asAddress named)) p (laterSpans (cells (now (track .entry)) (now (marks .entry))))) ⌝ }
+    ensures { λ a. ⌜ asAnswer a ≡ answerOf (readSpans (asHome h) 2 (settled (asAddress named)) p (laterSpans (cells (now (track .entry)) (now (marks .entry))))) ⌝ }
 {
     if track.len() == 0 {
         return format::done();
@@ -73,7 +73,7 @@ fn judge_even(track: &[u8], marks: &[u8], p: usize, h: Home, named: Address) -> 
 // The answer for the sectors from sector 0 at place p on: 6 where its count does not open, then sector by sector.
 fn judge_sectors(track: &[u8], marks: &[u8], p: usize, h: Home) -> format::Answer
     requires { ⌜ NoStrayMark p (now track) (now marks) ⌝ }
-    ensures { λ a. ⌜ answerAt (a .number) (a .place) ≡ answerOf (readSpans (asHome h) 0 unsettled p (spans (drop p (cells (now (track .entry)) (now (marks .entry)))))) ⌝ }
+    ensures { λ a. ⌜ asAnswer a ≡ answerOf (readSpans (asHome h) 0 unsettled p (spans (drop p (cells (now (track .entry)) (now (marks .entry)))))) ⌝ }
 {
     if !search::opens_plain(track, marks, p) {
         return format::first_count_missing(p);
@@ -93,7 +93,7 @@ fn judge_sectors(track: &[u8], marks: &[u8], p: usize, h: Home) -> format::Answe
 fn judge_numbers(track: &[u8], marks: &[u8], p: usize) -> format::Answer
     requires { ⌜ NoStrayMark p (now track) (now marks) ⌝ }
     requires { ⌜ startsWith plainOpening (drop p (cells (now track) (now marks))) ≡ true ⌝ }
-    ensures { λ a. ⌜ answerAt (a .number) (a .place) ≡ answerOf (numbersIn [] 0 p (spans (drop p (cells (now (track .entry)) (now (marks .entry)))))) ⌝ }
+    ensures { λ a. ⌜ asAnswer a ≡ answerOf (numbersIn [] 0 p (spans (drop p (cells (now (track .entry)) (now (marks .entry)))))) ⌝ }
 {
     let mut seen: [u8; 256] = [0; 256];
     let zero = sector_at(track, marks, true, p);
@@ -116,7 +116,7 @@ fn judge_numbers(track: &[u8], marks: &[u8], p: usize) -> format::Answer
 fn judge_behind(track: &[u8], marks: &[u8], h: Home) -> format::Answer
     requires { ⌜ lentForReading (now track) (now marks) ≡ true ⌝ }
     requires { ⌜ h .place ≤ 37 ⌝ }
-    ensures { λ a. ⌜ answerAt (a .number) (a .place) ≡ answerOf (judgeBehind (asHome h) (cells (now (track .entry)) (now (marks .entry)))) ⌝ }
+    ensures { λ a. ⌜ asAnswer a ≡ answerOf (judgeBehind (asHome h) (cells (now (track .entry)) (now (marks .entry)))) ⌝ }
 {
     let p = h.place + 25;
     let strayed = search::judge_marks(track, marks, p + 18);
@@ -161,7 +161,7 @@ pub fn judge(track: &[u8], marks: &[u8]) -> Judged
 
 // Accept: the answer for the whole track.
 pub fn accept(track: &[u8], marks: &[u8]) -> format::Answer
-    ensures { λ a. ⌜ answerAt (a .number) (a .place) ≡ answerOf (accept (now (track .entry)) (now (marks .entry))) ⌝ }
+    ensures { λ a. ⌜ asAnswer a ≡ answerOf (accept (now (track .entry)) (now (marks .entry))) ⌝ }
 {
     let judged = judge(track, marks);
     match judged {

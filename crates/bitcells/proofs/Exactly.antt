@@ -11,8 +11,8 @@ use Rattle.format.specs.Answer.{lentWrong, patternWrong}
 use Rattle.format.specs.Judged.{Judged, good, refused, then, require, answerOf}
 use Rattle.format.specs.Lent.{lentForWriting, lentForReading}
 use Rattle.format.specs.Written.{Pair}
-use Rattle.format.proofs.Judged.{cases, false-true, and-both}
-use Rattle.format.proofs.Pairs.{lent-marks}
+use Rattle.base.proofs.Tests.{cases, false-true, and-both}
+use Rattle.format.proofs.Track.Pairs.{lent-marks}
 use Rattle.pattern.specs.Pattern.{recordable, legalPattern}
 use Rattle.bitcells.specs.Each.{eachPattern, eachByte, judgeEach}
 use Rattle.bitcells.specs.FromCells.{lentFrom, readPair, fromCells}

@@ -8,7 +8,8 @@ use lib.ListN.{length, getD, drop, drop-of-length-le}
 use lib.Seq.{drop-cons}
 use Rattle.format.specs.Answer.{patternWrong}
 use Rattle.format.specs.Judged.{Judged, good, refused, answerOf}
-use Rattle.format.proofs.Judged.{false-true, refused-good}
+use Rattle.format.proofs.Base.Judged.{refused-good}
+use Rattle.base.proofs.Tests.{false-true}
 use Rattle.bitcells.specs.Each.{judgeEach}
 
 -- Where all is well every test holds,

@@ -5,7 +5,7 @@ use mathlib.Core.Bool.{true}
 use lib.Dec.{leb, eqb}
 use borrow.Author.Tests.{leb-true}
 use Rattle.format.specs.Lent.{lengthRight, lentForWriting}
-use Rattle.format.proofs.Judged.{and-both}
+use Rattle.base.proofs.Tests.{and-both}
 
 -- No track is longer than 4,002 bytes.
 pub lent-most : (l k : ℕ) → lentForWriting l k ≡ true → l ≤ 4002

@@ -9,7 +9,7 @@ use borrow.Author.Tests.{eqb-true}
 use Rattle.format.specs.Answer.{Answer, done, lentWrong, patternWrong}
 use Rattle.format.specs.Judged.{Judged, good, refused, answerOf, valueOr}
 use Rattle.format.specs.Lent.{lengthRight, lentForWriting, lentForReading}
-use Rattle.format.proofs.Judged.{and-both}
+use Rattle.base.proofs.Tests.{and-both}
 use Rattle.pattern.specs.Pattern.{recordable, legalPattern}
 use Rattle.bitcells.specs.Each.{eachPattern, eachByte, judgeEach}
 use Rattle.bitcells.specs.FromCells.{lentFrom, readPair, fromCells}

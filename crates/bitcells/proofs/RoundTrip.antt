@@ -14,8 +14,9 @@ use Rattle.format.specs.Answer.{lentWrong}
 use Rattle.format.specs.Judged.{good}
 use Rattle.format.specs.Lent.{lengthRight, marksLegal, lentForWriting, lentForReading}
 use Rattle.format.specs.Written.{Pair}
-use Rattle.format.proofs.Judged.{cases, and-both, and-make, good-inj, then-good, require-good}
-use Rattle.format.proofs.Pairs.{lent-marks}
+use Rattle.format.proofs.Base.Judged.{good-inj, then-good, require-good}
+use Rattle.base.proofs.Tests.{cases, and-both, and-make}
+use Rattle.format.proofs.Track.Pairs.{lent-marks}
 use Rattle.pattern.specs.Pattern.{firstCells, secondCells, clocksFor, recordable, clocksIn, dataIn, legalPattern, markIn, cellBytes}
 use Rattle.bitcells.specs.Each.{eachPattern, eachByte, judgeEach}
 use Rattle.bitcells.specs.FromCells.{lentFrom, readPair, fromCells}

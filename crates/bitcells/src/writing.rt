@@ -3,7 +3,7 @@ ghost use mathlib.Core.Path.{_≡_};
 ghost use mathlib.Core.Bool.{true};
 ghost use Prim.Native.Nat.{_*_, _≤_};
 ghost use lib.ListN.{length};
-ghost use Rattle.format.specs.Answer.{answerAt};
+ghost use Rattle.format.specs.Answer.{asAnswer};
 ghost use Rattle.format.specs.Judged.{answerOf, valueOr};
 ghost use Rattle.pattern.specs.Pattern.{recordable};
 ghost use Rattle.bitcells.specs.Each.{eachByte, judgeEach};
@@ -107,7 +107,7 @@ fn lent_to(track: &[u8], marks: &[u8], n: usize) -> bool
 
 // From a track and its marks to bit cells: 1 and 17 leave every cell byte as it was; 0 where all are written.
 pub fn to_cells(track: &[u8], marks: &[u8], bit_cells: &mut [u8]) -> format::Answer
-    ensures answer { λ r. ⌜ answerAt (r .number) (r .place) ≡ answerOf (toCells (now (track .entry)) (now (marks .entry)) (length (now («bit_cells» .entry)))) ⌝ }
+    ensures answer { λ r. ⌜ asAnswer r ≡ answerOf (toCells (now (track .entry)) (now (marks .entry)) (length (now («bit_cells» .entry)))) ⌝ }
     ensures bytes { λ _. ⌜ now («bit_cells» .exit) ≡ valueOr (now («bit_cells» .entry)) (toCells (now (track .entry)) (now (marks .entry)) (length (now («bit_cells» .entry)))) ⌝ }
 {
     if !lent_to(track, marks, bit_cells.len()) {

@@ -6,12 +6,8 @@ use mathlib.Core.Bool.{Bool, true, false, _&&_}
 use mathlib.Core.List.{List, [], _∷_}
 use lib.Dec.{eqb}
 use borrow.Author.Tests.{eq-eqb, eqb-true}
+use Rattle.base.proofs.Tests.{and-both}
 use Rattle.crc.specs.Check.{checkOf, checkBytes, agrees}
-
--- Both parts of a true conjunction are true.
-both-true : (a b : Bool) → (a && b) ≡ true → (a ≡ true) × (b ≡ true)
-both-true true b e = (refl, e)
-both-true false b e = let z : _≡_ {A = ℕ} 0 1 = cc in absurd (omega arith)
 
 -- Tests each of which holds where the other does are the same.
 same-test : (a b : Bool) → (a ≡ true → b ≡ true) → (b ≡ true → a ≡ true) → a ≡ b
@@ -23,7 +19,7 @@ same-test false false f g = refl
 agrees-parts : (bs : List ℕ) (h l : ℕ) → agrees bs h l ≡ true → (checkOf bs / 256 ≡ h) × (checkOf bs % 256 ≡ l)
 unfolding agrees
 agrees-parts bs h l e =
-    let p = both-true (eqb (checkOf bs / 256) h) (eqb (checkOf bs % 256) l) e in
+    let p = and-both (eqb (checkOf bs / 256) h) (eqb (checkOf bs % 256) l) e in
     (eqb-true (checkOf bs / 256) h (p .0), eqb-true (checkOf bs % 256) l (p .1))
 
 -- Where the two bytes are those of the check, the test of agreement holds.

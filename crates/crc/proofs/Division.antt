@@ -7,7 +7,7 @@ use mathlib.Core.Bool.{Bool, true, false}
 use mathlib.Core.List.{List, [], _∷_}
 use lib.Dec.{ltb, lit<}
 use lib.Bits.{bitXor, xor-self, xor-zero-r, xor-block, xor-shifted, xor-shr}
-use Rattle.crc.specs.Pick.{pick}
+use Rattle.base.specs.Pick.{pick}
 use Rattle.crc.specs.Check.{divisor, bringDown, remainder, coefficients}
 use Rattle.crc.specs.Division.{Digits, value, times, quotient}
 use Rattle.crc.proofs.Xor.{xor-middle, xor-assoc, xor-twice, xor-cancel, xor-zero-same}

@@ -4,7 +4,7 @@ use mathlib.Core.Bool.{Bool, _&&_}
 use mathlib.Core.List.{List, [], _∷_, _++_}
 use lib.Dec.{ltb, eqb}
 use lib.Bits.{bitXor}
-use Rattle.crc.specs.Pick.{pick}
+use Rattle.base.specs.Pick.{pick}
 
 -- The k low binary digits of n, highest first.
 unfoldable pub digits : ℕ → ℕ → List ℕ

@@ -1,5 +1,4 @@
 -- What the check of information bytes is: the check itself, division by x^16 + 1, and the halves by bytes.
-pub mod Pick
 pub mod Check
 pub mod Division
 pub mod Halves

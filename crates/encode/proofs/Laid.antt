@@ -9,8 +9,7 @@ use native.Mathlib.Numerals.{add-one}
 use lib.ListN.{length, take, drop, set, getD, replicate, length-replicate, length-drop, length-append, take-append-drop, drop-of-length-le, replicate-append-replicate}
 use lib.Seq.{take-suc, drop-drop, take-at, drop-at, set-split, length-take-le}
 use borrow.Rule.Slice.PartMut.{putMid, put-same}
-use Rattle.format.proofs.Lists.{part-all}
-use Rattle.format.proofs.Lists.{part-all as part-rest}
+use Rattle.base.proofs.Lists.{part-all, part-all as part-rest}
 use Rattle.encode.specs.Laid.{laidOver, laidAt, laidIf, laidAtIf}
 
 -- Laid at place 0 is laid over the front.

@@ -4,12 +4,8 @@ use Prim.Native.Nat.{ℕ, _≤_, _<_}
 use mathlib.Core.Bool.{Bool, true, false, _&&_}
 use lib.Dec.{leb}
 use borrow.Author.Tests.{le-leb, lt-leb}
+use Rattle.base.proofs.Tests.{and-right}
 use Rattle.encode.specs.Room.{bothFit, gapFits}
-
--- Two tests do not both hold where the second fails.
-pub and-right : (a : Bool) {b : Bool} → b ≡ false → (a && b) ≡ false
-and-right true e = e
-and-right false e = refl
 
 -- It fits where both parts are long enough.
 pub both-fit : (n l k : ℕ) → n ≤ l → n ≤ k → bothFit n l k ≡ true

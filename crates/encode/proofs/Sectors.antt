@@ -10,20 +10,20 @@ use borrow.Author.Tests.{le-leb, lt-leb, lt-ltb}
 use Rattle.format.specs.Lent.{bytesOf, marksOf, unmarked}
 use Rattle.format.specs.Opening.{closing}
 use Rattle.format.specs.Address.{addressBytes}
-use Rattle.format.specs.Sector.{Sector, openingLength}
+use Rattle.format.specs.Sector.{Sector, openingLength, contentRight}
 use Rattle.format.specs.Written.{homeGap, innerGap, countInfo, writtenBlock, writtenKey, writtenData, countOpening, writtenSector, sectorSize}
-use Rattle.format.specs.Blank.{contentRight, writtenHead}
-use Rattle.format.proofs.Opening.{unmarked-append, unmarked-replicate}
-use Rattle.format.proofs.Field.{unmarked-block, length-closing}
-use Rattle.format.proofs.Standing.{FitsCount, info-unmarked}
-use Rattle.format.proofs.WrittenRest.{writtenRest, written-form, rest-unmarked, length-rest}
-use Rattle.format.proofs.ReadBack.{length-written}
-use Rattle.format.proofs.ReadBack.{length-written as sector-length}
-use Rattle.format.proofs.Pairs.{bytes-unmarked}
-use Rattle.format.proofs.WrittenHome.{head-length}
+use Rattle.format.specs.Blank.{writtenHead}
+use Rattle.format.proofs.Cells.Opening.{unmarked-append, unmarked-replicate}
+use Rattle.format.proofs.Cells.Field.{unmarked-block, length-closing}
+use Rattle.format.proofs.Sector.Standing.{FitsCount, info-unmarked}
+use Rattle.format.proofs.Sector.WrittenRest.{writtenRest, written-form, rest-unmarked, length-rest}
+use Rattle.format.proofs.Sector.ReadBack.{length-written, length-written as sector-length}
+use Rattle.format.proofs.Track.Pairs.{bytes-unmarked}
+use Rattle.format.proofs.Written.WrittenHome.{head-length}
 use Rattle.encode.specs.Room.{addressOf, bothFit, sectorFits}
 use Rattle.encode.specs.Bytes.{countBytes}
-use Rattle.encode.proofs.Room.{and-right, both-fit}
+use Rattle.encode.proofs.Room.{both-fit}
+use Rattle.base.proofs.Tests.{and-right}
 use Rattle.encode.proofs.Openings.{length-opening}
 use Rattle.encode.proofs.Cells.{bytes-append, marks-append, marks-unmarked}
 

@@ -5,9 +5,8 @@ use mathlib.Core.List.{List}
 use lib.ListN.{length}
 use lib.Dec.{leb}
 use Rattle.format.specs.Address.{Address}
-use Rattle.format.specs.Sector.{Sector}
+use Rattle.format.specs.Sector.{Sector, contentRight}
 use Rattle.format.specs.Written.{writtenSector}
-use Rattle.format.specs.Blank.{contentRight}
 
 -- C and H as an address.
 abbrev pub addressOf : ℕ → ℕ → Address

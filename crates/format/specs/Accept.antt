@@ -1,18 +1,19 @@
 -- Accept: judges the whole track.
 use Prim.Native.Nat.{ℕ, zero, suc, _+_}
 use mathlib.Core.Bool.{Bool, false, not, _&&_, _||_}
-use mathlib.Core.List.{List, [], _∷_}
+use mathlib.Core.List.{List, [], _∷_, map}
 use lib.ListN.{length, drop}
 use lib.Dec.{leb, ltb, eqb}
-use Rattle.crc.specs.Pick.{pick}
+use Rattle.base.specs.Pick.{pick}
 use Rattle.format.specs.Answer.{lentWrong, markStray, sectorRepeated}
 use Rattle.format.specs.Judged.{Judged, good, then, require}
 use Rattle.format.specs.Lent.{lentForReading, cells}
 use Rattle.format.specs.Opening.{opens}
 use Rattle.format.specs.Home.{Home, judgeHome, firstCountPlace}
 use Rattle.format.specs.Count.{Settled, unsettled}
+use Rattle.format.specs.Block.{blockEnd}
 use Rattle.format.specs.Span.{spans, none}
-use Rattle.format.specs.Sector.{Sector, settle, readSpan}
+use Rattle.format.specs.Sector.{Sector, settle, readSpan, openingLength}
 
 -- Answer 5: the lowest mark outside a whole opening, or in one that starts before place e.
 -- c starts at place q, and its first k cells belong to an opening that was passed.
@@ -43,6 +44,26 @@ unfoldable pub placedFrom : ℕ → List (List ℕ) → List Sector → List Pla
 placedFrom p [] ss = []
 placedFrom p (g ∷ gs) [] = []
 placedFrom p (g ∷ gs) (s ∷ ss) = record { place = p; span = g; sector = s } ∷ placedFrom (p + length g) gs ss
+
+-- The place at which the data block of a placed sector ends.
+unfoldable pub endOf : Placed → ℕ
+endOf x =
+    let o = openingLength (x .sector .first) in
+    x .place + o + blockEnd (drop o (x .span))
+
+-- The sectors of placed ones.
+abbrev pub sectorsOf : List Placed → List Sector
+sectorsOf xs = map (λ x. x .sector) xs
+
+-- The sectors from the leftmost that carries S on; none where no sector does.
+unfoldable pub fromNumber : ℕ → List Placed → List Placed
+fromNumber s [] = []
+fromNumber s (x ∷ xs) = let r = fromNumber s xs in pick (eqb (x .sector .number) s) (x ∷ xs) r
+
+-- The last of the placed sectors x and xs.
+abbrev pub lastOf : Placed → List Placed → Placed
+lastOf x [] = x
+lastOf x (y ∷ ys) = lastOf y ys
 
 -- n is among the numbers ns.
 unfoldable pub among : ℕ → List ℕ → Bool

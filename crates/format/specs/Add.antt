@@ -4,32 +4,16 @@ use mathlib.Core.Bool.{Bool, false, _&&_}
 use mathlib.Core.List.{List, [], _∷_, _++_}
 use lib.ListN.{length, take, drop, replicate}
 use lib.Dec.{leb, eqb}
-use Rattle.crc.specs.Pick.{pick}
+use Rattle.base.specs.Pick.{pick}
 use Rattle.format.specs.Answer.{lentWrong, sectorRepeated, sectorMissing, wantedWrong}
 use Rattle.format.specs.Judged.{Judged, good, refused, then, require}
-use Rattle.format.specs.Lent.{lentForReading, cells}
+use Rattle.format.specs.Lent.{lentForReading, cells, bothLent}
 use Rattle.format.specs.Flag.{condition}
 use Rattle.format.specs.Home.{Home}
 use Rattle.format.specs.Block.{blockEnd}
-use Rattle.format.specs.Sector.{Sector, openingLength}
-use Rattle.format.specs.Accept.{Placed, acceptCells}
+use Rattle.format.specs.Sector.{Sector, openingLength, contentRight}
+use Rattle.format.specs.Accept.{Placed, acceptCells, endOf, fromNumber}
 use Rattle.format.specs.Written.{gapAfter, writtenBehind, Pair, asPair}
-use Rattle.format.specs.Blank.{contentRight}
-
--- Both pairs are lent within the rule: the read one, and the written one of the same L.
-unfoldable pub bothLent : List ℕ → List ℕ → ℕ → ℕ → Bool
-bothLent t m l k = lentForReading t m && (eqb l (length t) && eqb k (length t))
-
--- The place at which the data block of a placed sector ends.
-unfoldable pub endOf : Placed → ℕ
-endOf x =
-    let o = openingLength (x .sector .first) in
-    x .place + o + blockEnd (drop o (x .span))
-
--- The sectors from the leftmost that carries S on; none where no sector does.
-unfoldable pub fromNumber : ℕ → List Placed → List Placed
-fromNumber s [] = []
-fromNumber s (x ∷ xs) = let r = fromNumber s xs in pick (eqb (x .sector .number) s) (x ∷ xs) r
 
 -- 13 where a sector carries S already, with its place.
 unfoldable pub judgeAbsent : List Placed → Judged (Unit {0})

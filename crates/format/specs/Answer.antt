@@ -1,5 +1,6 @@
 -- The answer of a call: its number and its place, with one name for each row of the table.
 use Prim.Native.Nat.{ℕ}
+use Rattle.format.specs.declared.Answer.{Answer as AnswerCode}
 
 -- An answer: the number of its row in the table, and the place of the fault in bytes after index.
 pub record Answer : Type 0 where
@@ -9,6 +10,14 @@ pub record Answer : Type 0 where
 -- The answer with number n and place p.
 abbrev pub answerAt : ℕ → ℕ → Answer
 answerAt n p = record { number = n; place = p }
+
+-- The answer that a value of the code stands for.
+abbrev pub asAnswer : AnswerCode → Answer
+asAnswer a = answerAt (a .number) (a .place)
+
+-- The value of the code that stands for an answer.
+abbrev pub coded : Answer → AnswerCode
+coded a = record { number = a .number; place = a .place }
 
 -- 0: done.
 abbrev pub done : Answer

@@ -4,18 +4,14 @@ use mathlib.Core.Bool.{Bool, true, _&&_}
 use mathlib.Core.List.{List, [], _∷_, _++_}
 use lib.ListN.{length, replicate}
 use lib.Dec.{leb}
-use Rattle.crc.specs.Pick.{pick}
+use Rattle.base.specs.Pick.{pick}
 use Rattle.format.specs.Answer.{lentWrong, wantedWrong}
 use Rattle.format.specs.Judged.{Judged, require}
 use Rattle.format.specs.Lent.{lentForWriting}
 use Rattle.format.specs.Flag.{namesItself}
 use Rattle.format.specs.Address.{Address, addressBytes, addressInRange, addressRight}
-use Rattle.format.specs.Sector.{Sector}
+use Rattle.format.specs.Sector.{Sector, contentRight}
 use Rattle.format.specs.Written.{homeGap, writtenBlock, gapOne, writtenBehind, Pair, asPair}
-
--- A key of at most 255 bytes and data of at most 65,535.
-unfoldable pub contentRight : List ℕ → List ℕ → Bool
-contentRight key body = leb (length key) 255 && leb (length body) 65535
 
 -- What the count names: the track itself for flags 00 and 11, where the partner is ignored.
 unfoldable pub namedBy : ℕ → Address → Address → Address

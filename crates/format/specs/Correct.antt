@@ -4,12 +4,10 @@ use mathlib.Core.List.{List, [], _∷_, map}
 use lib.ListN.{length, take}
 use Rattle.format.specs.Answer.{lentWrong, sectorMissing, wantedWrong}
 use Rattle.format.specs.Judged.{Judged, refused, then, require}
-use Rattle.format.specs.Lent.{cells}
-use Rattle.format.specs.Sector.{Sector}
-use Rattle.format.specs.Accept.{Placed, acceptCells}
+use Rattle.format.specs.Lent.{cells, bothLent}
+use Rattle.format.specs.Sector.{Sector, contentRight}
+use Rattle.format.specs.Accept.{Placed, acceptCells, fromNumber, sectorsOf}
 use Rattle.format.specs.Written.{writtenBehind, Pair, asPair}
-use Rattle.format.specs.Blank.{contentRight}
-use Rattle.format.specs.Add.{bothLent, fromNumber}
 
 -- The sector with a new key and data; flag, C, H and S are kept.
 unfoldable pub withContent : List ℕ → List ℕ → Sector → Sector
@@ -22,10 +20,6 @@ withContent key body s =
       keyBytes = key;
       dataBytes = body;
     }
-
--- The sectors of placed ones.
-abbrev pub sectorsOf : List Placed → List Sector
-sectorsOf xs = map (λ x. x .sector) xs
 
 module _ (gap : ℕ → ℕ → ℕ) where
   -- The track c, of which xs are the sectors from the corrected one on: it is kept up to that count's opening, and these sectors are

@@ -3,18 +3,23 @@ use Prim.Native.Nat.{ℕ, _+_}
 use mathlib.Core.List.{List, [], _∷_}
 use lib.ListN.{take, drop}
 use lib.Dec.{eqb}
-use Rattle.crc.specs.Pick.{pick}
+use Rattle.base.specs.Pick.{pick}
 use Rattle.format.specs.Answer.{lentWrong, spanTooShort, keyWrong, dataWrong, sectorMissing, sectorRepeated}
 use Rattle.format.specs.Judged.{Judged, good, refused, then, require}
 use Rattle.format.specs.Lent.{lentForReading, cells}
 use Rattle.format.specs.Count.{countNumber, keyLength, dataLength}
 use Rattle.format.specs.Block.{keyOffset, dataOffset, blocksFit, keyRight, dataRight}
-use Rattle.format.specs.Sector.{openingLength}
+use Rattle.format.specs.Sector.{openingLength, Sector}
 use Rattle.format.specs.Candidate.{Candidate, candidates}
 
 -- Which part of a sector is asked for.
 pub data Wanted : Type 0 where
   theKey theData : Wanted
+
+-- The key or the data of a sector.
+abbrev pub contentOf : Wanted → Sector → List ℕ
+contentOf theKey s = s .keyBytes
+contentOf theData s = s .dataBytes
 
 -- A part of the lent track.
 pub record Part : Type 0 where

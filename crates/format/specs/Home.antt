@@ -3,7 +3,7 @@ use Prim.Native.Nat.{ℕ, zero, suc, _+_}
 use mathlib.Core.Bool.{Bool, _&&_}
 use mathlib.Core.List.{List}
 use lib.ListN.{take, drop, getD}
-use Rattle.crc.specs.Pick.{pick}
+use Rattle.base.specs.Pick.{pick}
 use Rattle.format.specs.Answer.{homeMissing, homeCheckWrong, homeFieldsWrong}
 use Rattle.format.specs.Judged.{Judged, good, refused, then, require}
 use Rattle.format.specs.Lent.{bytesOf}

@@ -1,6 +1,6 @@
 -- What judging gives: a value, or the answer that refuses it.
 use mathlib.Core.Bool.{Bool}
-use Rattle.crc.specs.Pick.{pick}
+use Rattle.base.specs.Pick.{pick}
 use Rattle.format.specs.Answer.{Answer, done}
 
 -- A value that was found good, or the answer that refuses it.

@@ -22,6 +22,10 @@ lentForWriting l k = lengthRight l && eqb k l
 unfoldable pub lentForReading : List ℕ → List ℕ → Bool
 lentForReading t m = lentForWriting (length t) (length m) && marksLegal m
 
+-- Both pairs are lent within the rule: the read one, and the written one of the same L.
+unfoldable pub bothLent : List ℕ → List ℕ → ℕ → ℕ → Bool
+bothLent t m l k = lentForReading t m && (eqb l (length t) && eqb k (length t))
+
 -- A cell is a byte together with its mark: byte + 256 * mark.
 unfoldable pub cells : List ℕ → List ℕ → List ℕ
 cells [] m = []

@@ -3,7 +3,7 @@ use Prim.Native.Nat.{ℕ, _+_}
 use mathlib.Core.List.{List, map}
 use lib.ListN.{length}
 use lib.Dec.{leb, eqb}
-use Rattle.crc.specs.Pick.{pick}
+use Rattle.base.specs.Pick.{pick}
 use Rattle.format.specs.Answer.{lentWrong}
 use Rattle.format.specs.Judged.{Judged, good, then, require}
 use Rattle.format.specs.Block.{keyOffset, keySize}

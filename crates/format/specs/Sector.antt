@@ -1,9 +1,9 @@
 -- A sector, and how it is read from its own span and nothing else.
 use Prim.Native.Nat.{ℕ, zero, suc, _+_}
-use mathlib.Core.Bool.{Bool, true, false}
+use mathlib.Core.Bool.{Bool, true, false, _&&_}
 use mathlib.Core.List.{List}
-use lib.ListN.{drop}
-use Rattle.crc.specs.Pick.{pick}
+use lib.ListN.{drop, length}
+use Rattle.base.specs.Pick.{pick}
 use Rattle.format.specs.Answer.{firstCountMissing, countCheckWrong, countFieldsWrong, spanTooShort, keyWrong, dataWrong}
 use Rattle.format.specs.Judged.{Judged, good, then, require}
 use Rattle.format.specs.Opening.{startsWith, plainOpening}
@@ -11,6 +11,7 @@ use Rattle.format.specs.Address.{Address}
 use Rattle.format.specs.Home.{Home}
 use Rattle.format.specs.Count.{Settled, unsettled, settled, countFlag, countAddress, countNumber, countFits, countClosed, countFieldsRight}
 use Rattle.format.specs.Block.{keyOffset, dataOffset, blocksFit, keyRight, dataRight, keyInfo, dataInfo}
+use lib.Dec.{leb}
 
 -- A sector: what its count says, and the information of its key and its data block.
 pub record Sector : Type 0 where
@@ -22,6 +23,10 @@ pub record Sector : Type 0 where
   pub number : ℕ
   pub keyBytes : List ℕ
   pub dataBytes : List ℕ
+
+-- A key of at most 255 bytes and data of at most 65,535.
+unfoldable pub contentRight : List ℕ → List ℕ → Bool
+contentRight key body = leb (length key) 255 && leb (length body) 65535
 
 -- The length of the opening of a count: six bytes in sector 0, else eight.
 abbrev pub openingLength : Bool → ℕ

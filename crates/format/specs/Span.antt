@@ -1,10 +1,11 @@
 -- The span of a count: on any track by the next mark, and all spans of a track whose marks are those of whole openings.
-use Prim.Native.Nat.{ℕ, suc, _+_, _-_}
-use mathlib.Core.Bool.{Bool, true, false}
+use Prim.Native.Nat.{ℕ, zero, suc, _+_, _-_}
+use mathlib.Core.Bool.{Bool, true, false, _&&_}
 use mathlib.Core.List.{List, [], _∷_, _++_}
 use lib.ListN.{length, take, drop}
 use lib.Dec.{ltb, eqb}
-use Rattle.crc.specs.Pick.{pick}
+use Rattle.base.specs.Pick.{pick}
+use Rattle.format.specs.Lent.{unmarked}
 use Rattle.format.specs.Opening.{opens}
 
 -- How many cells stand before the first marked one.
@@ -47,3 +48,13 @@ joined (g ∷ gs) = g ++ joined gs
 abbrev pub none : {A : Type 0} → List A → Bool
 none [] = true
 none (x ∷ xs) = false
+
+-- No mark of the span in position i stands outside its opening.
+unfoldable pub cleanSpan : ℕ → List ℕ → Bool
+cleanSpan zero g = unmarked g
+cleanSpan (suc i) g = unmarked (drop 8 g)
+
+-- The same of the spans gs, the first of which stands in position i.
+unfoldable pub cleanSpans : ℕ → List (List ℕ) → Bool
+cleanSpans i [] = true
+cleanSpans i (g ∷ gs) = cleanSpan i g && cleanSpans (suc i) gs

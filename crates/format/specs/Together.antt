@@ -4,15 +4,15 @@ use mathlib.Core.Bool.{Bool, true, _||_}
 use mathlib.Core.List.{List, [], _∷_, _++_, map}
 use lib.ListN.{length, take}
 use lib.Dec.{leb, eqb}
-use Rattle.crc.specs.Pick.{pick}
+use Rattle.base.specs.Pick.{pick}
 use Rattle.format.specs.Answer.{roomMissing}
 use Rattle.format.specs.Judged.{Judged, good, require}
 use Rattle.format.specs.Block.{leastGap}
 use Rattle.format.specs.Span.{joined}
 use Rattle.format.specs.Sector.{Sector}
-use Rattle.format.specs.Accept.{Placed}
+use Rattle.format.specs.Accept.{Placed, sectorsOf}
 use Rattle.format.specs.Written.{reach, writtenSpans, Pair}
-use Rattle.format.specs.Correct.{withContent, sectorsOf, correctCells, correct}
+use Rattle.format.specs.Correct.{withContent, correctCells, correct}
 
 -- A correction: the sector S, its new key and its new data.
 pub record Correction : Type 0 where

@@ -1,6 +1,6 @@
 // The answer of a call as code, made in one place for each row of the table.
 ghost use mathlib.Core.Path.{_≡_};
-ghost use Rattle.format.specs.Answer.{answerAt, done, lentWrong, homeMissing, homeCheckWrong, homeFieldsWrong, markStray, firstCountMissing, countCheckWrong, countFieldsWrong, spanTooShort, keyWrong, dataWrong, sectorMissing, sectorRepeated, wantedWrong, roomMissing, pairWrong, patternWrong};
+ghost use Rattle.format.specs.Answer.{asAnswer, done, lentWrong, homeMissing, homeCheckWrong, homeFieldsWrong, markStray, firstCountMissing, countCheckWrong, countFieldsWrong, spanTooShort, keyWrong, dataWrong, sectorMissing, sectorRepeated, wantedWrong, roomMissing, pairWrong, patternWrong};
 
 // The number and the place of an answer.
 pub struct Answer {
@@ -10,7 +10,7 @@ pub struct Answer {
 
 // 0: the call is done.
 pub fn done() -> Answer
-    ensures { λ r. ⌜ answerAt (r .number) (r .place) ≡ done ⌝ }
+    ensures { λ r. ⌜ asAnswer r ≡ done ⌝ }
 {
     Answer {
         number: 0,
@@ -20,7 +20,7 @@ pub fn done() -> Answer
 
 // 1: a lent length, a mark or the length of a list is out of rule.
 pub fn lent_wrong() -> Answer
-    ensures { λ r. ⌜ answerAt (r .number) (r .place) ≡ lentWrong ⌝ }
+    ensures { λ r. ⌜ asAnswer r ≡ lentWrong ⌝ }
 {
     Answer {
         number: 1,
@@ -30,7 +30,7 @@ pub fn lent_wrong() -> Answer
 
 // 2: home opens nowhere in its window, which starts at 23.
 pub fn home_missing() -> Answer
-    ensures { λ r. ⌜ answerAt (r .number) (r .place) ≡ homeMissing ⌝ }
+    ensures { λ r. ⌜ asAnswer r ≡ homeMissing ⌝ }
 {
     Answer {
         number: 2,
@@ -40,7 +40,7 @@ pub fn home_missing() -> Answer
 
 // 3: the check or the closing byte of home at p is wrong.
 pub fn home_check_wrong(p: usize) -> Answer
-    ensures { λ r. ⌜ answerAt (r .number) (r .place) ≡ homeCheckWrong p ⌝ }
+    ensures { λ r. ⌜ asAnswer r ≡ homeCheckWrong p ⌝ }
 {
     Answer {
         number: 3,
@@ -50,7 +50,7 @@ pub fn home_check_wrong(p: usize) -> Answer
 
 // 4: flag, C or H of home at p is out of rule.
 pub fn home_fields_wrong(p: usize) -> Answer
-    ensures { λ r. ⌜ answerAt (r .number) (r .place) ≡ homeFieldsWrong p ⌝ }
+    ensures { λ r. ⌜ asAnswer r ≡ homeFieldsWrong p ⌝ }
 {
     Answer {
         number: 4,
@@ -60,7 +60,7 @@ pub fn home_fields_wrong(p: usize) -> Answer
 
 // 5: the mark at p belongs to no whole opening, or to one that starts too early, before the end of sector 0's count.
 pub fn mark_stray(p: usize) -> Answer
-    ensures { λ r. ⌜ answerAt (r .number) (r .place) ≡ markStray p ⌝ }
+    ensures { λ r. ⌜ asAnswer r ≡ markStray p ⌝ }
 {
     Answer {
         number: 5,
@@ -70,7 +70,7 @@ pub fn mark_stray(p: usize) -> Answer
 
 // 6: sector 0's count does not open at its place p.
 pub fn first_count_missing(p: usize) -> Answer
-    ensures { λ r. ⌜ answerAt (r .number) (r .place) ≡ firstCountMissing p ⌝ }
+    ensures { λ r. ⌜ asAnswer r ≡ firstCountMissing p ⌝ }
 {
     Answer {
         number: 6,
@@ -80,7 +80,7 @@ pub fn first_count_missing(p: usize) -> Answer
 
 // 7: the check or the closing byte of the count at p is wrong.
 pub fn count_check_wrong(p: usize) -> Answer
-    ensures { λ r. ⌜ answerAt (r .number) (r .place) ≡ countCheckWrong p ⌝ }
+    ensures { λ r. ⌜ asAnswer r ≡ countCheckWrong p ⌝ }
 {
     Answer {
         number: 7,
@@ -90,7 +90,7 @@ pub fn count_check_wrong(p: usize) -> Answer
 
 // 8: flag, C or H of the count at p is out of rule.
 pub fn count_fields_wrong(p: usize) -> Answer
-    ensures { λ r. ⌜ answerAt (r .number) (r .place) ≡ countFieldsWrong p ⌝ }
+    ensures { λ r. ⌜ asAnswer r ≡ countFieldsWrong p ⌝ }
 {
     Answer {
         number: 8,
@@ -100,7 +100,7 @@ pub fn count_fields_wrong(p: usize) -> Answer
 
 // 9: the count at p, or its blocks with the least gap, do not fit its span.
 pub fn span_too_short(p: usize) -> Answer
-    ensures { λ r. ⌜ answerAt (r .number) (r .place) ≡ spanTooShort p ⌝ }
+    ensures { λ r. ⌜ asAnswer r ≡ spanTooShort p ⌝ }
 {
     Answer {
         number: 9,
@@ -110,7 +110,7 @@ pub fn span_too_short(p: usize) -> Answer
 
 // 10: opening, check or closing byte of the key at p is wrong.
 pub fn key_wrong(p: usize) -> Answer
-    ensures { λ r. ⌜ answerAt (r .number) (r .place) ≡ keyWrong p ⌝ }
+    ensures { λ r. ⌜ asAnswer r ≡ keyWrong p ⌝ }
 {
     Answer {
         number: 10,
@@ -120,7 +120,7 @@ pub fn key_wrong(p: usize) -> Answer
 
 // 11: opening, check or closing byte of the data block at p is wrong, or it is not 00 where DL = 0.
 pub fn data_wrong(p: usize) -> Answer
-    ensures { λ r. ⌜ answerAt (r .number) (r .place) ≡ dataWrong p ⌝ }
+    ensures { λ r. ⌜ asAnswer r ≡ dataWrong p ⌝ }
 {
     Answer {
         number: 11,
@@ -130,7 +130,7 @@ pub fn data_wrong(p: usize) -> Answer
 
 // 12: there is no candidate with this S; or a walk has come to its end.
 pub fn sector_missing() -> Answer
-    ensures { λ r. ⌜ answerAt (r .number) (r .place) ≡ sectorMissing ⌝ }
+    ensures { λ r. ⌜ asAnswer r ≡ sectorMissing ⌝ }
 {
     Answer {
         number: 12,
@@ -140,7 +140,7 @@ pub fn sector_missing() -> Answer
 
 // 13: the count at p repeats the S of another.
 pub fn sector_repeated(p: usize) -> Answer
-    ensures { λ r. ⌜ answerAt (r .number) (r .place) ≡ sectorRepeated p ⌝ }
+    ensures { λ r. ⌜ asAnswer r ≡ sectorRepeated p ⌝ }
 {
     Answer {
         number: 13,
@@ -150,7 +150,7 @@ pub fn sector_repeated(p: usize) -> Answer
 
 // 14: a wanted field is out of rule.
 pub fn wanted_wrong() -> Answer
-    ensures { λ r. ⌜ answerAt (r .number) (r .place) ≡ wantedWrong ⌝ }
+    ensures { λ r. ⌜ asAnswer r ≡ wantedWrong ⌝ }
 {
     Answer {
         number: 14,
@@ -160,7 +160,7 @@ pub fn wanted_wrong() -> Answer
 
 // 15: fewer than 13 bytes would be left behind the last block.
 pub fn room_missing() -> Answer
-    ensures { λ r. ⌜ answerAt (r .number) (r .place) ≡ roomMissing ⌝ }
+    ensures { λ r. ⌜ asAnswer r ≡ roomMissing ⌝ }
 {
     Answer {
         number: 15,
@@ -170,7 +170,7 @@ pub fn room_missing() -> Answer
 
 // 16: the pair does not agree, or its first track has flag 11.
 pub fn pair_wrong() -> Answer
-    ensures { λ r. ⌜ answerAt (r .number) (r .place) ≡ pairWrong ⌝ }
+    ensures { λ r. ⌜ asAnswer r ≡ pairWrong ⌝ }
 {
     Answer {
         number: 16,
@@ -180,7 +180,7 @@ pub fn pair_wrong() -> Answer
 
 // 17: the bit cells of the byte at p are no legal pattern, or its mark stands on another value than FF.
 pub fn pattern_wrong(p: usize) -> Answer
-    ensures { λ r. ⌜ answerAt (r .number) (r .place) ≡ patternWrong p ⌝ }
+    ensures { λ r. ⌜ asAnswer r ≡ patternWrong p ⌝ }
 {
     Answer {
         number: 17,

@@ -6,13 +6,13 @@ use mathlib.Core.List.{List}
 use lib.ListN.{length}
 use borrow.Author.Tests.{le-leb, lt-leb}
 use Rattle.format.specs.declared.Answer.{Answer as AnswerCode}
-use Rattle.format.specs.Answer.{Answer, answerAt, done, lentWrong}
+use Rattle.format.specs.Answer.{coded, asAnswer, Answer, done, lentWrong}
 use Rattle.format.specs.Judged.{Judged, good, refused, then, answerOf}
 use Rattle.format.specs.Home.{Home, firstCountPlace}
 use Rattle.format.specs.Accept.{Accepted, accept}
 use Rattle.format.specs.Listing.{Listed, mostSectors, list}
-use Rattle.format.proofs.Judged.{good-inj}
-use Rattle.format.proofs.ListAccepted.{list-records, list-refuses, list-short}
+use Rattle.format.proofs.Base.Judged.{good-inj}
+use Rattle.format.proofs.Track.ListAccepted.{list-records, list-refuses, list-short}
 use Rattle.listing.specs.declared.Begun.{Begun}
 use Rattle.listing.specs.Filling.{recordsOf, firstCount, firstFor, refusedBy, begun}
 
@@ -37,23 +37,23 @@ first-refused t m b e = go (accept t m) e
     go (refused d) q = cc
 
 -- Where the outcome is refused, nothing is listed.
-refused-so : (n : ℕ) (t m : List ℕ) (x : AnswerCode) (b : Answer) → answerAt (x .number) (x .place) ≡ b → list n t m ≡ refused b → firstFor n t m ≡ 0
+refused-so : (n : ℕ) (t m : List ℕ) (x : AnswerCode) (b : Answer) → asAnswer x ≡ b → list n t m ≡ refused b → firstFor n t m ≡ 0
     → refusedBy x ≡ begun n t m
 refused-so n t m x b e l f =
     let k : 0 ≡ length (recordsOf (list n t m)) = rw l refl in
-    let q : answerAt (x .number) (x .place) ≡ answerOf (list n t m) = rw l e in
-    λ i. record { listing = record { answer = record { number = q i .number; place = q i .place }; count = k i }; first = sym f i }
+    let q : asAnswer x ≡ answerOf (list n t m) = rw l e in
+    λ i. record { listing = record { answer = coded (q i); count = k i }; first = sym f i }
 
 -- A list under 67 is refused by 1.
-pub begun-short : (n : ℕ) (t m : List ℕ) (x : AnswerCode) → answerAt (x .number) (x .place) ≡ lentWrong → n < mostSectors → refusedBy x ≡ begun n t m
+pub begun-short : (n : ℕ) (t m : List ℕ) (x : AnswerCode) → asAnswer x ≡ lentWrong → n < mostSectors → refusedBy x ≡ begun n t m
 unfolding firstFor
 begun-short n t m x e l = refused-so n t m x lentWrong e (list-short n t m l) (rw (lt-leb mostSectors n l))
 
 -- A track that Accept refuses is refused by the same answer.
-pub begun-refused : (n : ℕ) (t m : List ℕ) (x : AnswerCode) → mostSectors ≤ n → accept t m ≡ refused (answerAt (x .number) (x .place)) → refusedBy x ≡ begun n t m
+pub begun-refused : (n : ℕ) (t m : List ℕ) (x : AnswerCode) → mostSectors ≤ n → accept t m ≡ refused (asAnswer x) → refusedBy x ≡ begun n t m
 unfolding firstFor firstCount
 begun-refused n t m x l e =
-    refused-so n t m x (answerAt (x .number) (x .place)) refl (list-refuses n t m (answerAt (x .number) (x .place)) l e) (rw (le-leb mostSectors n l, e))
+    refused-so n t m x (asAnswer x) refl (list-refuses n t m (asAnswer x) l e) (rw (le-leb mostSectors n l, e))
 
 -- The length of a list of 67 or more makes no difference.
 same-list : (n : ℕ) (t m : List ℕ) → mostSectors ≤ n → list mostSectors t m ≡ list n t m
@@ -69,11 +69,11 @@ answer-good n t m p l e = go (accept t m) refl e
     go (good a) g q = rw (list-records n t m a l g) refl
     go (refused b) g q = absurd (let z : _≡_ {A = ℕ} 0 1 = cc in omega arith)
 
-pub begun-good : (n : ℕ) (t m : List ℕ) (p k : ℕ) (x : AnswerCode) → answerAt (x .number) (x .place) ≡ done → mostSectors ≤ n → firstCount t m ≡ good p
+pub begun-good : (n : ℕ) (t m : List ℕ) (p k : ℕ) (x : AnswerCode) → asAnswer x ≡ done → mostSectors ≤ n → firstCount t m ≡ good p
     → k ≡ length (recordsOf (list mostSectors t m)) → _≡_ {A = Begun} (record { listing = record { answer = x; count = k }; first = p }) (begun n t m)
 unfolding firstFor
 begun-good n t m p k x e l f c =
-    let q : answerAt (x .number) (x .place) ≡ answerOf (list n t m) = e ∙ answer-good n t m p l f in
+    let q : asAnswer x ≡ answerOf (list n t m) = e ∙ answer-good n t m p l f in
     let j : k ≡ length (recordsOf (list n t m)) = c ∙ ap (λ (o : Judged (List Listed)). length (recordsOf o)) (same-list n t m l) in
     let h : firstFor n t m ≡ p = rw (le-leb mostSectors n l, f) in
-    λ i. record { listing = record { answer = record { number = q i .number; place = q i .place }; count = j i }; first = sym h i }
+    λ i. record { listing = record { answer = coded (q i); count = j i }; first = sym h i }

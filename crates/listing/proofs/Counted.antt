@@ -9,8 +9,8 @@ use Rattle.format.specs.Lent.{cells}
 use Rattle.format.specs.Home.{firstCountPlace}
 use Rattle.format.specs.Accept.{Placed, Accepted, accept}
 use Rattle.format.specs.Listing.{mostSectors, list}
-use Rattle.format.proofs.Judged.{then-good, good-inj}
-use Rattle.format.proofs.ListAccepted.{list-records, list-number}
+use Rattle.format.proofs.Base.Judged.{then-good, good-inj}
+use Rattle.format.proofs.Track.ListAccepted.{list-records, list-number}
 use Rattle.sectors.proofs.From.{accepted-start}
 use Rattle.listing.specs.Filling.{recordsOf, firstCount}
 use Rattle.listing.proofs.Listed.{next, Here, here-first, here-end, come}

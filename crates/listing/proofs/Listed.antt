@@ -14,9 +14,9 @@ use Rattle.format.specs.Home.{firstCountPlace}
 use Rattle.format.specs.Span.{none}
 use Rattle.format.specs.Accept.{Placed, Accepted, accept}
 use Rattle.format.specs.Listing.{Listed, listed, mostSectors, list}
-use Rattle.format.proofs.Judged.{cases}
-use Rattle.format.proofs.Sectors.{list-suffices}
-use Rattle.format.proofs.ListAccepted.{list-records, list-number, list-refuses, list-short}
+use Rattle.base.proofs.Tests.{cases}
+use Rattle.format.proofs.Track.Sectors.{list-suffices}
+use Rattle.format.proofs.Track.ListAccepted.{list-records, list-number, list-refuses, list-short}
 use Rattle.sectors.proofs.Stepping.{Stepping}
 use Rattle.sectors.proofs.From.{SectorsFrom, accepted-start}
 use Rattle.listing.specs.declared.Sector.{Sector}

@@ -4,7 +4,7 @@ use mathlib.Core.List.{List, [], _++_, map}
 use lib.ListN.{length, drop}
 use lib.Dec.{leb}
 use Rattle.format.specs.declared.Answer.{Answer}
-use Rattle.format.specs.Answer.{lentWrong}
+use Rattle.format.specs.Answer.{coded, lentWrong}
 use Rattle.format.specs.Judged.{Judged, good, then, require, answerOf, valueOr}
 use Rattle.format.specs.Home.{firstCountPlace}
 use Rattle.format.specs.Accept.{accept}
@@ -69,7 +69,7 @@ firstFor n t m = valueOr 0 (require (leb mostSectors n) lentWrong (firstCount t 
 
 -- The answer and the number of records of an outcome.
 abbrev pub asListing : Judged (List Listed) → Listing
-asListing j = record { answer = record { number = answerOf j .number; place = answerOf j .place }; count = length (recordsOf j) }
+asListing j = record { answer = coded (answerOf j); count = length (recordsOf j) }
 
 -- What is settled where the answer a refuses: no record.
 abbrev pub refusedBy : Answer → Begun

@@ -1,7 +1,7 @@
 // List: an accepted track's sectors as records in a list that the caller lends.
 ghost use mathlib.Core.Path.{_≡_};
 ghost use lib.ListN.{length, replicate};
-ghost use Rattle.format.specs.Answer.{answerAt};
+ghost use Rattle.format.specs.Answer.{asAnswer};
 ghost use Rattle.format.specs.Judged.{good, answerOf};
 ghost use Rattle.format.specs.Lent.{cells};
 ghost use Rattle.format.specs.Listing.{mostSectors, list};
@@ -99,7 +99,7 @@ fn begin(track: &[u8], marks: &[u8], n: usize) -> Begun
 
 // Fills the first records of the list with the sectors of an accepted track from left to right; every other record stays.
 pub fn list(track: &[u8], marks: &[u8], out: &mut [Sector]) -> Listing
-    ensures { λ r. ⌜ answerAt (r .answer .number) (r .answer .place) ≡ answerOf (list (length (now (out .entry))) (now (track .entry)) (now (marks .entry))) ⌝ }
+    ensures { λ r. ⌜ asAnswer (r .answer) ≡ answerOf (list (length (now (out .entry))) (now (track .entry)) (now (marks .entry))) ⌝ }
     ensures { λ r. ⌜ r .count ≡ length (recordsOf (list (length (now (out .entry))) (now (track .entry)) (now (marks .entry)))) ⌝ }
     ensures { λ r. ⌜ asRecords (now (out .exit)) ≡ filled (list (length (now (out .entry))) (now (track .entry)) (now (marks .entry))) (asRecords (now (out .entry))) ⌝ }
 {
@@ -124,7 +124,7 @@ pub struct Filled {
 
 // List into 67 empty records, which are handed back by value.
 pub fn list_all(track: &[u8], marks: &[u8]) -> Filled
-    ensures { λ r. ⌜ answerAt (r .listing .answer .number) (r .listing .answer .place) ≡ answerOf (list mostSectors (now (track .entry)) (now (marks .entry))) ⌝ }
+    ensures { λ r. ⌜ asAnswer (r .listing .answer) ≡ answerOf (list mostSectors (now (track .entry)) (now (marks .entry))) ⌝ }
     ensures { λ r. ⌜ r .listing .count ≡ length (recordsOf (list mostSectors (now (track .entry)) (now (marks .entry)))) ⌝ }
     ensures { λ r. ⌜ asRecords (r .records) ≡ filled (list mostSectors (now (track .entry)) (now (marks .entry))) (asRecords (replicate mostSectors empty)) ⌝ }
 {

@@ -6,7 +6,7 @@ use mathlib.Core.Bool.{true}
 use lib.Dec.{eqb}
 use borrow.Author.Tests.{eqb-true, eqb-false}
 use Rattle.crc.specs.Division.{value}
-use Rattle.format.proofs.Judged.{cases, and-both}
+use Rattle.base.proofs.Tests.{cases, and-both}
 use Rattle.pattern.specs.Pattern.{firstCells, secondCells, allClocks, clocksFor, recordable, clocksIn, dataIn, legalPattern, markIn}
 use Rattle.pattern.proofs.Inverse.{clocks-written, data-written}
 

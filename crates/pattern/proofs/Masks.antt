@@ -8,7 +8,7 @@ use lib.Dec.{eqb}
 use borrow.Author.Tests.{eqb-true, eqb-false, eq-eqb, ne-eqb}
 use Rattle.crc.specs.Check.{digits}
 use Rattle.crc.specs.Division.{value}
-use Rattle.format.proofs.Judged.{cases, and-both}
+use Rattle.base.proofs.Tests.{cases, and-both}
 use Rattle.pattern.specs.Pattern.{alternating, bitCells, firstCells, secondCells, clockCells, dataCells, clocksIn, dataIn, legalPattern}
 use Rattle.pattern.proofs.Inverse.{bit, first-read, second-read}
 

@@ -8,12 +8,12 @@ use mathlib.Core.List.{List, [], _∷_, _++_}
 use lib.ListN.{length, getD, take, drop, length-drop, drop-of-length-le}
 use lib.Seq.{drop-cons, drop-drop}
 use lib.Dec.{eqb}
-use Rattle.crc.specs.Pick.{pick}
+use Rattle.base.specs.Pick.{pick}
 use Rattle.format.specs.Judged.{Judged}
 use Rattle.format.specs.Count.{countNumber}
 use Rattle.format.specs.Candidate.{Candidate, firstOpensAt, candidateAt, standsAt, candidatesFrom}
 use Rattle.format.specs.Find.{carrying}
-use Rattle.format.proofs.Judged.{cases}
+use Rattle.base.proofs.Tests.{cases}
 use Rattle.reader.specs.Finding.{standingAt}
 
 -- The candidates from place p on, of the whole track c.

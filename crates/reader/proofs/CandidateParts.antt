@@ -7,7 +7,7 @@ use mathlib.Core.List.{List, [], _∷_}
 use lib.ListN.{length, take, drop, length-drop, drop-of-length-le}
 use lib.Seq.{take-nil, take-all}
 use borrow.Author.Tests.{le-leb, lt-leb, eq-eqb, ne-eqb}
-use Rattle.crc.specs.Pick.{pick}
+use Rattle.base.specs.Pick.{pick}
 use Rattle.format.specs.Judged.{Judged, good}
 use Rattle.format.specs.Lent.{cells}
 use Rattle.format.specs.Opening.{startsWith, plainOpening, opens}
@@ -16,7 +16,7 @@ use Rattle.format.specs.Count.{countFits, countClosed}
 use Rattle.format.specs.Span.{runsToIndex, spanLength}
 use Rattle.format.specs.Sector.{openingLength}
 use Rattle.format.specs.Candidate.{Candidate, firstOpensAt, candidateAt, countPasses, standsAt}
-use Rattle.format.proofs.CandidateBytes.{after-length, after-bytes}
+use Rattle.format.proofs.Find.CandidateBytes.{after-length, after-bytes}
 use Rattle.reader.specs.Finding.{asCandidate, passing, standingAt}
 use Rattle.reader.specs.declared.candidate.Candidate.{Candidate as CandidateCode}
 

@@ -8,7 +8,7 @@ use lib.ListN.{getD, drop}
 use lib.Seq.{getD-drop}
 use lib.Dec.{eqb}
 use borrow.Author.Tests.{eq-eqb, ne-eqb}
-use Rattle.crc.specs.Pick.{pick}
+use Rattle.base.specs.Pick.{pick}
 use Rattle.format.specs.Answer.{Answer, lentWrong, firstCountMissing, pairWrong}
 use Rattle.format.specs.Judged.{Judged, good, refused, then, answerOf}
 use Rattle.format.specs.Lent.{lentForReading, cells}
@@ -22,8 +22,7 @@ use Rattle.format.specs.Sector.{judgeCount}
 use Rattle.format.specs.Accept.{Accepted, accept}
 use Rattle.format.specs.Find.{Wanted, find}
 use Rattle.format.specs.PairFind.{ofFirst, ofSecond, fromFirstCount, namedTrack, judgeFirstCount, judgeFirst, pairAgrees, findOnSecond, findByFlag, pairFind}
-use Rattle.format.proofs.Judged.{and-false}
-use Rattle.sector.proofs.Test.{eqb-comm}
+use Rattle.base.proofs.Tests.{and-right, eqb-comm}
 use Rattle.accepting.proofs.AcceptAnswers.{count-zero}
 
 -- An outcome whose answer is not 0 is that refusal.
@@ -109,7 +108,7 @@ module _ (h : Home) (c : List ℕ) (g : Home) (d : List ℕ) where
   -- It is not the one that the first names.
   pub agrees-other : condition (g .flag) ≡ 1 → sameAddress (g .address) (namedTrack h c) ≡ false → pairAgrees h c g d ≡ false
   unfolding pairAgrees
-  agrees-other e n = rw (n, and-false (eqb (condition (g .flag)) 1))
+  agrees-other e n = rw (n, and-right (eqb (condition (g .flag)) 1) refl)
 
   -- It is, and the first is the one that it names, or not.
   pub agrees-named : condition (g .flag) ≡ 1 → sameAddress (g .address) (namedTrack h c) ≡ true → pairAgrees h c g d ≡ sameAddress (h .address) (namedTrack g d)

@@ -7,7 +7,7 @@ use mathlib.Core.List.{List, [], _∷_}
 use lib.ListN.{length, take, drop, length-take, length-drop}
 use lib.Dec.{eqb}
 use borrow.Author.Tests.{eq-eqb, ne-eqb}
-use Rattle.crc.specs.Pick.{pick}
+use Rattle.base.specs.Pick.{pick}
 use Rattle.format.specs.Answer.{lentWrong, sectorMissing, sectorRepeated, spanTooShort, keyWrong, dataWrong}
 use Rattle.format.specs.Judged.{Judged, good, refused}
 use Rattle.format.specs.Lent.{lentForReading, cells}
@@ -17,7 +17,7 @@ use Rattle.format.specs.Block.{blocksFit, keyRight, dataRight}
 use Rattle.format.specs.Sector.{openingLength}
 use Rattle.format.specs.Candidate.{Candidate, candidates}
 use Rattle.format.specs.Find.{Wanted, theKey, theData, Part, partAt, carrying, only, keyPlace, dataPlace, wantedPart, candidatePart, findCells, find}
-use Rattle.format.proofs.FindParts.{offsetOf, lengthOf, block-fits}
+use Rattle.format.proofs.Find.FindParts.{offsetOf, lengthOf, block-fits}
 use Rattle.reader.specs.Finding.{asCandidate, asPart}
 use Rattle.reader.specs.declared.candidate.Candidate.{Candidate as CandidateCode}
 use Rattle.reader.specs.declared.finding.Part.{Part as PartCode}

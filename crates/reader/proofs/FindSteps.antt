@@ -13,8 +13,8 @@ use Rattle.format.specs.Home.{findHome}
 use Rattle.format.specs.Count.{countFlag, countNumber, keyLength, dataLength}
 use Rattle.format.specs.Candidate.{Candidate, candidateAt, standsAt, candidatesFrom, candidates}
 use Rattle.format.specs.Walk.{Visited, visited, nextFrom, step}
-use Rattle.format.proofs.Judged.{cases}
-use Rattle.format.proofs.WalkSteps.{next-here}
+use Rattle.base.proofs.Tests.{cases}
+use Rattle.format.proofs.Find.WalkSteps.{next-here}
 use Rattle.reader.proofs.CandidateNext.{candidatesAt, candidates-first, none-first}
 
 -- The candidates before place p are passed.

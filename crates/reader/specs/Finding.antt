@@ -3,14 +3,13 @@ use Prim.Native.Nat.{ℕ, _+_, _≤_}
 use mathlib.Core.Bool.{Bool}
 use mathlib.Core.List.{List, [], _∷_}
 use lib.ListN.{take, drop}
-use Rattle.crc.specs.Pick.{pick}
-use Rattle.format.specs.Answer.{Answer, answerAt}
+use Rattle.base.specs.Pick.{pick}
+use Rattle.format.specs.Answer.{asAnswer}
 use Rattle.format.specs.Judged.{Judged, good, refused}
 use Rattle.format.specs.Sector.{openingLength}
 use Rattle.format.specs.Candidate.{Candidate, firstOpensAt, candidateAt, countPasses, standsAt}
 use Rattle.format.specs.Walk.{Visited}
 use Rattle.format.specs.Find.{Wanted, theKey, theData, Part, partOf}
-use Rattle.format.specs.declared.Answer.{Answer as AnswerCode}
 use Rattle.reader.specs.declared.candidate.Candidate.{Candidate as CandidateCode}
 use Rattle.reader.specs.declared.candidate.Standing.{Standing}
 use Rattle.reader.specs.declared.candidate.Standing.the-variants.{Stands, Not}
@@ -45,10 +44,6 @@ passing first p c = pick (countPasses (candidateAt first p c)) (candidateAt firs
 -- The candidate at the front of c, at place p, if one stands there.
 unfoldable pub standingAt : Judged ℕ → ℕ → List ℕ → List Candidate
 standingAt h p c = pick (standsAt h p c) (candidateAt (firstOpensAt h p c) p c ∷ []) []
-
--- The answer that a value of the code stands for.
-abbrev pub asAnswer : AnswerCode → Answer
-asAnswer a = answerAt (a .number) (a .place)
 
 -- What a step gives of a candidate.
 abbrev pub asVisited : VisitedCode → Visited

@@ -2,7 +2,7 @@
 use Prim.Native.Nat.{ℕ}
 use mathlib.Core.List.{List}
 use lib.Dec.{eqb}
-use Rattle.crc.specs.Pick.{pick}
+use Rattle.base.specs.Pick.{pick}
 use Rattle.format.specs.PairFind.{Paired}
 use Rattle.reader.specs.declared.pair.Paired.{Paired as PairedCode}
 use Rattle.reader.specs.Finding.{judgedPart, partWithin, handedOut}

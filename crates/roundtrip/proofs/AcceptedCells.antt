@@ -12,9 +12,9 @@ use Rattle.crc.specs.Halves.{AllBytes}
 use Rattle.format.specs.Judged.{good}
 use Rattle.format.specs.Lent.{cells, unmarked}
 use Rattle.format.specs.Accept.{Accepted, firstCountEnd, accept}
-use Rattle.format.proofs.Judged.{cases, and-both}
-use Rattle.format.proofs.ReadsAs.{accepted-by}
-use Rattle.format.proofs.Pairs.{accepted-pair, cellRecordable, cellsRecordable, recordable-marks}
+use Rattle.base.proofs.Tests.{cases, and-both}
+use Rattle.format.proofs.Sector.ReadsAs.{accepted-by}
+use Rattle.format.proofs.Track.Pairs.{accepted-pair, cellRecordable, cellsRecordable, recordable-marks}
 use Rattle.bitcells.specs.FromCells.{fromCells}
 use Rattle.bitcells.specs.ToCells.{writtenCells, toCells}
 use Rattle.bitcells.specs.Legal.{MarkedFF}

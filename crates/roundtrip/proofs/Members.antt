@@ -7,11 +7,9 @@ use mathlib.Core.List.{List, [], _∷_, _++_, map}
 use lib.Dec.{eqb}
 use borrow.Author.Tests.{eqb-true}
 use Rattle.format.specs.Sector.{Sector}
-use Rattle.format.specs.Accept.{Placed}
-use Rattle.format.specs.Add.{fromNumber}
-use Rattle.format.specs.Correct.{sectorsOf}
-use Rattle.format.proofs.Judged.{cases}
-use Rattle.format.proofs.Lists.{Member}
+use Rattle.format.specs.Accept.{Placed, fromNumber, sectorsOf}
+use Rattle.base.proofs.Tests.{cases}
+use Rattle.base.specs.Lists.{Member}
 
 -- An element behind a list is a member of both together.
 pub member-last : {A : Type 0} (x : A) (xs : List A) → Member x (xs ++ x ∷ [])

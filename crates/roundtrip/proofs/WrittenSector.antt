@@ -9,23 +9,24 @@ use lib.Dec.{eqb}
 use borrow.Author.Tests.{eqb-true, eq-eqb}
 use Rattle.format.specs.Answer.{lentWrong, wantedWrong, sectorMissing}
 use Rattle.format.specs.Judged.{Judged, good}
-use Rattle.format.specs.Lent.{lentForReading, lentForWriting, cells, unmarked}
+use Rattle.format.specs.Lent.{lentForReading, lentForWriting, cells, unmarked, bothLent}
 use Rattle.format.specs.Address.{Address}
-use Rattle.format.specs.Sector.{Sector}
-use Rattle.format.specs.Accept.{Placed, Accepted, acceptCells, accept}
+use Rattle.format.specs.Sector.{Sector, contentRight}
+use Rattle.format.specs.Accept.{Placed, Accepted, acceptCells, accept, fromNumber, sectorsOf}
 use Rattle.format.specs.Written.{Pair, asPair, gapOne, writtenBehind}
-use Rattle.format.specs.Blank.{contentRight, namedBy, blankRight, writtenHead, blankSector, blank}
-use Rattle.format.specs.Add.{bothLent, fromNumber, addCells, add}
-use Rattle.format.specs.Correct.{withContent, sectorsOf, rewrittenFrom, correctCells, correct}
+use Rattle.format.specs.Blank.{namedBy, blankRight, writtenHead, blankSector, blank}
+use Rattle.format.specs.Add.{addCells, add}
+use Rattle.format.specs.Correct.{withContent, rewrittenFrom, correctCells, correct}
 use Rattle.format.specs.Together.{Correction, replacedBy, correctedPair}
-use Rattle.format.proofs.Judged.{and-both, then-good, require-good, require-holds, refused-good}
-use Rattle.format.proofs.Lists.{Member}
-use Rattle.format.proofs.Pairs.{unmarked-bytes, written-pair}
-use Rattle.format.proofs.BlankAccepted.{blank-accepted}
-use Rattle.format.proofs.NewSector.{newSector}
-use Rattle.format.proofs.AddPair.{add-pair}
-use Rattle.format.proofs.Replaced.{named, replaced-one}
-use Rattle.format.proofs.CorrectPair.{correct-pair}
+use Rattle.format.proofs.Base.Judged.{then-good, require-good, require-holds, refused-good}
+use Rattle.base.proofs.Tests.{and-both}
+use Rattle.base.specs.Lists.{Member}
+use Rattle.format.proofs.Track.Pairs.{unmarked-bytes, written-pair}
+use Rattle.format.proofs.Written.BlankAccepted.{blank-accepted}
+use Rattle.format.proofs.Add.NewSector.{newSector}
+use Rattle.format.proofs.Add.AddPair.{add-pair}
+use Rattle.format.proofs.Correct.Replaced.{named, replaced-one}
+use Rattle.format.proofs.Correct.CorrectPair.{correct-pair}
 use Rattle.roundtrip.specs.Chain.{Wrote, byBlank, byAdd, byCorrect}
 use Rattle.roundtrip.proofs.Members.{member-last, member-map, member-placed, member-number}
 

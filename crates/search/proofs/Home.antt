@@ -11,7 +11,7 @@ use Rattle.format.specs.Judged.{good, refused}
 use Rattle.format.specs.Lent.{cells}
 use Rattle.format.specs.Opening.{startsWith, plainOpening}
 use Rattle.format.specs.Home.{homeFrom}
-use Rattle.format.proofs.Opening.{starts-short}
+use Rattle.format.proofs.Cells.Opening.{starts-short}
 use Rattle.search.proofs.Cells.{other-byte, other-mark, same-cell}
 
 -- The plain opening has bytes only.

@@ -11,8 +11,8 @@ use lib.Seq.{drop-cons}
 use borrow.Author.Tests.{lt-ltb, le-ltb, leb-true, leb-false, eq-eqb, ne-eqb}
 use Rattle.format.specs.Lent.{cells}
 use Rattle.format.specs.Span.{unmarkedRun, runsToIndex, spanLength}
-use Rattle.format.proofs.Judged.{cases}
-use Rattle.format.proofs.CandidateBytes.{run-le}
+use Rattle.base.proofs.Tests.{cases}
+use Rattle.format.proofs.Find.CandidateBytes.{run-le}
 use Rattle.search.proofs.Cells.{getD-cells}
 
 -- Behind the last cell no run starts.

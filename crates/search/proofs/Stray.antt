@@ -14,9 +14,9 @@ use Rattle.format.specs.Judged.{good, refused}
 use Rattle.format.specs.Lent.{cells}
 use Rattle.format.specs.Opening.{opens}
 use Rattle.format.specs.Accept.{judgeMarks}
-use Rattle.format.proofs.Judged.{and-both}
-use Rattle.format.proofs.Opening.{length-opens}
-use Rattle.format.proofs.Marks.{marks-opening}
+use Rattle.base.proofs.Tests.{and-both}
+use Rattle.format.proofs.Cells.Opening.{length-opens}
+use Rattle.format.proofs.Spans.Marks.{marks-opening}
 use Rattle.search.proofs.Cells.{getD-cells}
 
 -- What starts before place e is not passed.

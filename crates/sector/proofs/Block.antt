@@ -11,9 +11,9 @@ use Rattle.format.specs.Opening.{startsWith, plainOpening, closedAfter}
 use Rattle.format.specs.Count.{keyLength, dataLength}
 use Rattle.format.specs.Block.{keySize, dataSize, dataOffset, blockEnd, leastGap, blockRight, keyRight, dataRight}
 use Rattle.format.specs.Sector.{openingLength}
-use Rattle.format.proofs.Judged.{cases}
-use Rattle.format.proofs.Lists.{part-all}
-use Rattle.format.proofs.Opening.{starts-short}
+use Rattle.base.proofs.Tests.{cases}
+use Rattle.base.proofs.Lists.{part-all}
+use Rattle.format.proofs.Cells.Opening.{starts-short}
 use Rattle.sector.proofs.Opening.{empty-short}
 
 -- A key takes at most 20 bytes beside its own.

@@ -1,5 +1,4 @@
 -- The laws that lead from the bytes of a span to the definitions.
-pub mod Test
 pub mod Opening
 pub mod Block
 pub mod Field

@@ -10,8 +10,8 @@ use lib.Seq.{drop-cons}
 use lib.Dec.{eqb}
 use Rattle.crc.specs.Check.{checkOf, checkBytes, agrees}
 use Rattle.format.specs.Opening.{startsWith, plainOpening, closing, closedAfter}
-use Rattle.format.proofs.Opening.{starts-length, starts-short}
-use Rattle.sector.proofs.Test.{and-true, and-assoc, eqb-comm}
+use Rattle.format.proofs.Cells.Opening.{starts-length, starts-short}
+use Rattle.base.proofs.Tests.{and-true, and-assoc, eqb-comm}
 
 -- Cells that start with two lists in turn.
 pub starts-append : (o q c : List ℕ) → startsWith (o ++ q) c ≡ (startsWith o c && startsWith q (drop (length o) c))

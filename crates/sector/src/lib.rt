@@ -1,6 +1,6 @@
 // Judging a sector from the bytes of its own span: what follows its count's opening.
 ghost use mathlib.Core.Path.{_≡_};
-ghost use Rattle.format.specs.Answer.{answerAt};
+ghost use Rattle.format.specs.Answer.{asAnswer};
 ghost use Rattle.format.specs.Judged.{answerOf};
 ghost use Rattle.format.specs.Sector.{openingLength, judgeCount, readBlocks};
 ghost use Rattle.sector.specs.As.{asHome, asSettled};
@@ -34,7 +34,7 @@ pub use fields::names_itself;
 
 // The answer for the count at p, in position i: 9 where it does not fit its span, then 7, then 8.
 pub fn judge_count(h: Home, i: usize, x: Named, p: usize, r: &[u8]) -> format::Answer
-    ensures { λ a. ⌜ answerAt (a .number) (a .place) ≡ answerOf (judgeCount (asHome h) i (asSettled x) p (now (r .entry))) ⌝ }
+    ensures { λ a. ⌜ asAnswer a ≡ answerOf (judgeCount (asHome h) i (asSettled x) p (now (r .entry))) ⌝ }
 {
     if count_fits(r) {
         if count_closed(r) {
@@ -60,7 +60,7 @@ pub fn opening_length(first: bool) -> usize
 
 // The answer for the blocks of the count at p: 9 where they and the least gap do not fit its span, then 10, then 11.
 pub fn judge_blocks(first: bool, p: u32, last: bool, r: &[u8]) -> format::Answer
-    ensures { λ a. ⌜ answerAt (a .number) (a .place) ≡ answerOf (readBlocks first p last (now (r .entry))) ⌝ }
+    ensures { λ a. ⌜ asAnswer a ≡ answerOf (readBlocks first p last (now (r .entry))) ⌝ }
 {
     let at = p as usize;
     if blocks_fit(last, r) {

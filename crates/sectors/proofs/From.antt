@@ -12,23 +12,22 @@ use Rattle.format.specs.Judged.{good}
 use Rattle.format.specs.Lent.{lengthRight, cells}
 use Rattle.format.specs.Home.{Home, firstCountPlace}
 use Rattle.format.specs.Count.{Settled, unsettled}
-use Rattle.format.specs.Span.{runsToIndex, spanLength, afterOpening, joined, none}
+use Rattle.format.specs.Span.{runsToIndex, spanLength, afterOpening, joined, none, cleanSpan, cleanSpans}
 use Rattle.format.specs.Sector.{Sector, openingLength, isFirst, settle, readSpan}
-use Rattle.format.specs.Accept.{Placed, placedFrom, Accepted, spansOf, accept}
+use Rattle.format.specs.Accept.{Placed, placedFrom, Accepted, spansOf, accept, endOf}
 use Rattle.format.specs.Listing.{listed}
-use Rattle.format.specs.Add.{endOf}
-use Rattle.format.proofs.Judged.{and-both, false-true}
-use Rattle.format.proofs.Shape.{Shape, cleanSpan, cleanSpans}
-use Rattle.format.proofs.Cutting.{joined-spans}
-use Rattle.format.proofs.HomeLocal.{home-window}
-use Rattle.format.proofs.SpanAgrees.{span-agrees}
-use Rattle.format.proofs.ReadSector.{behindOpening, read-inv, span-least}
-use Rattle.format.proofs.Standing.{FitsCount, info-fits}
-use Rattle.format.proofs.ReadBack.{read-stands}
-use Rattle.format.proofs.ReadsAs.{Reads, accepted-by}
-use Rattle.format.proofs.AcceptedSpans.{accepted-track}
-use Rattle.format.proofs.Pairs.{length-cells, accepted-pair, lent-marks, lent-length}
-use Rattle.format.proofs.SpanCandidates.{shape-rest, none-placed}
+use Rattle.base.proofs.Tests.{and-both, false-true}
+use Rattle.format.proofs.Spans.Shape.{Shape}
+use Rattle.format.proofs.Spans.Cutting.{joined-spans}
+use Rattle.format.proofs.Track.HomeLocal.{home-window}
+use Rattle.format.proofs.Spans.SpanAgrees.{span-agrees}
+use Rattle.format.proofs.Sector.ReadSector.{behindOpening, read-inv, span-least}
+use Rattle.format.proofs.Sector.Standing.{FitsCount, info-fits}
+use Rattle.format.proofs.Sector.ReadBack.{read-stands}
+use Rattle.format.proofs.Sector.ReadsAs.{Reads, accepted-by}
+use Rattle.format.proofs.Track.AcceptedSpans.{accepted-track}
+use Rattle.format.proofs.Track.Pairs.{length-cells, accepted-pair, lent-marks, lent-length}
+use Rattle.format.proofs.Find.SpanCandidates.{shape-rest, none-placed}
 use Rattle.sectors.specs.declared.SectorAt.{SectorAt}
 use Rattle.sectors.specs.Stepped.{Stepped, steppedAt, addressAt, asStepped}
 use Rattle.sectors.proofs.Stepping.{Stepping, stepping-made}

@@ -8,16 +8,16 @@ use lib.ListN.{length, take, drop, length-drop}
 use lib.Seq.{drop-drop, take-append-le, drop-append-le}
 use lib.Dec.{eqb}
 use borrow.Author.Tests.{le-leb, lt-leb, eq-eqb, ne-eqb}
-use Rattle.crc.specs.Pick.{pick}
+use Rattle.base.specs.Pick.{pick}
 use Rattle.format.specs.Lent.{cells}
 use Rattle.format.specs.Count.{countFlag, countNumber, keyLength, dataLength}
 use Rattle.format.specs.Block.{keyOffset, dataOffset, blockEnd}
 use Rattle.format.specs.Span.{runsToIndex, spanLength, afterOpening}
 use Rattle.format.specs.Sector.{openingLength}
-use Rattle.format.proofs.Lists.{none-long}
-use Rattle.format.proofs.CandidateBytes.{after-length, after-front-bytes, after-bytes}
+use Rattle.base.proofs.Lists.{none-long}
+use Rattle.format.proofs.Find.CandidateBytes.{after-length, after-front-bytes, after-bytes}
 use Rattle.search.proofs.Run.{span-le}
-use Rattle.format.proofs.Pairs.{length-cells}
+use Rattle.format.proofs.Track.Pairs.{length-cells}
 use Rattle.sectors.specs.Stepped.{Stepped, steppedIn, nowhere, restAt, steppedAt}
 
 -- A place in what follows a count's opening is one in the track.

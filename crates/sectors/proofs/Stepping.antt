@@ -8,19 +8,18 @@ use lib.ListN.{length, take, drop}
 use lib.Seq.{drop-drop}
 use lib.Dec.{eqb}
 use borrow.Author.Tests.{leb-true, eqb-true}
-use Rattle.crc.specs.Pick.{pick}
+use Rattle.base.specs.Pick.{pick}
 use Rattle.format.specs.Lent.{cells}
 use Rattle.format.specs.Count.{countAddress, keyLength, dataLength}
 use Rattle.format.specs.Block.{keyOffset, keySize, dataSize, dataOffset, blockEnd, leastGap, blocksFit, blockInfo, keyInfo, dataInfo}
 use Rattle.format.specs.Span.{runsToIndex, spanLength, afterOpening}
 use Rattle.format.specs.Sector.{Sector, openingLength, sectorIn}
-use Rattle.format.specs.Accept.{Placed}
+use Rattle.format.specs.Accept.{Placed, endOf}
 use Rattle.format.specs.Listing.{Listed, listed}
-use Rattle.format.specs.Add.{endOf}
-use Rattle.format.proofs.Judged.{cases}
-use Rattle.format.proofs.Sizes.{key-size-least, data-size-least, gap-least}
-use Rattle.format.proofs.ReadSector.{fit-key, fit-data}
-use Rattle.format.proofs.Standing.{FitsCount}
+use Rattle.base.proofs.Tests.{cases}
+use Rattle.format.proofs.Sector.Sizes.{key-size-least, data-size-least, gap-least}
+use Rattle.format.proofs.Sector.ReadSector.{fit-key, fit-data}
+use Rattle.format.proofs.Sector.Standing.{FitsCount}
 use Rattle.sectors.specs.Stepped.{Stepped, steppedIn, restAt, steppedAt, addressAt}
 use Rattle.sectors.proofs.Rest.{opening-least, after-place, stepped-here}
 

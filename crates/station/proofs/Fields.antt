@@ -21,11 +21,11 @@ use Rattle.format.specs.Candidate.{Candidate, firstOpensAt, candidateAt, stands
 use Rattle.format.specs.Find.{Wanted, theKey, theData, Part, partAt, carrying, only, keyPlace, dataPlace, wantedPart, candidatePart, findCells, find}
 use Rattle.format.specs.Walk.{Visited, visited, nextFrom, step}
 use Rattle.format.specs.PairFind.{Paired, fromFirstCount, judgeFirstCount, judgeFirst, pairAgrees, findOnSecond, findByFlag, pairFind}
-use Rattle.format.proofs.Judged.{cases}
-use Rattle.format.proofs.Opening.{unmarked-at}
-use Rattle.format.proofs.HomeLocal.{home-window}
-use Rattle.format.proofs.CandidateBytes.{after-front}
-use Rattle.format.proofs.FindParts.{block-fits}
+use Rattle.base.proofs.Tests.{cases}
+use Rattle.format.proofs.Cells.Opening.{unmarked-at}
+use Rattle.format.proofs.Track.HomeLocal.{home-window}
+use Rattle.format.proofs.Find.CandidateBytes.{after-front}
+use Rattle.format.proofs.Find.FindParts.{block-fits}
 use Rattle.station.proofs.Places.{Row, Within, within-then, within-require, cells-few, home-within, count-within, accept-within}
 
 -- A candidate that lies within 4,002 cells and has bytes for its fields.

@@ -18,12 +18,12 @@ use Rattle.format.specs.Span.{joined, none, spans}
 use Rattle.format.specs.Sector.{Sector, openingLength, settle, judgeCount, readBlocks, judgeSector, readSpan}
 use Rattle.format.specs.Accept.{judgeMarks, readSpans, placedFrom, among, judgeNumbers, spansOf, firstCountEnd, judgeBehind, acceptCells, accept}
 use Rattle.format.specs.Find.{theKey, theData}
-use Rattle.format.proofs.Judged.{cases, and-both}
-use Rattle.format.proofs.HomeLocal.{found-window, home-window}
-use Rattle.format.proofs.StrayMark.{marks-stray}
-use Rattle.format.proofs.Cutting.{joined-spans}
-use Rattle.format.proofs.Pairs.{lent-length}
-use Rattle.format.proofs.FindParts.{block-fits}
+use Rattle.base.proofs.Tests.{cases, and-both}
+use Rattle.format.proofs.Track.HomeLocal.{found-window, home-window}
+use Rattle.format.proofs.Spans.StrayMark.{marks-stray}
+use Rattle.format.proofs.Spans.Cutting.{joined-spans}
+use Rattle.format.proofs.Track.Pairs.{lent-length}
+use Rattle.format.proofs.Find.FindParts.{block-fits}
 
 -- An answer of the table whose place is 4,002 at most.
 abbrev pub Row : Answer → Type 0

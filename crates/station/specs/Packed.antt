@@ -2,7 +2,7 @@
 use Prim.Native.Nat.{ℕ, _+_, _*_, _%_}
 use mathlib.Core.List.{List}
 use lib.Dec.{eqb}
-use Rattle.crc.specs.Pick.{pick}
+use Rattle.base.specs.Pick.{pick}
 use Rattle.format.specs.Answer.{Answer, wantedWrong}
 use Rattle.format.specs.Judged.{Judged, good, refused}
 use Rattle.format.specs.Find.{Wanted, theKey, theData, Part}

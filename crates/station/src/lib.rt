@@ -1,7 +1,8 @@
 // The C interface: plain numbers and byte slices in, one number of 64 bits out.
 ghost use mathlib.Core.Path.{_≡_};
+ghost use Rattle.format.specs.Answer.{asAnswer};
 ghost use Prim.Native.Nat.{_≤_};
-ghost use Rattle.reader.specs.Finding.{asAnswer, asVisited, asPart, judgedPart, judgedVisit};
+ghost use Rattle.reader.specs.Finding.{asVisited, asPart, judgedPart, judgedVisit};
 ghost use Rattle.reader.specs.Pairing.{asPaired};
 ghost use Rattle.station.specs.Packed.{packedAnswer, packedBounds, packedPart, packedPaired, packedVisited, packedVisit};
 

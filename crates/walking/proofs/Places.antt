@@ -12,9 +12,10 @@ use Rattle.format.specs.Home.{findHome}
 use Rattle.format.specs.Candidate.{Candidate, standsAt, candidateAt, candidatesFrom, candidates}
 use Rattle.format.specs.Walk.{Visited, visited, nextFrom, step, placeAfter}
 use Rattle.format.specs.declared.Answer.{Answer as AnswerCode}
-use Rattle.format.proofs.Judged.{cases, and-both, good-inj, refused-good, require-good}
+use Rattle.format.proofs.Base.Judged.{good-inj, refused-good, require-good}
+use Rattle.base.proofs.Tests.{cases, and-both}
 use borrow.Author.Tests.{leb-true}
-use Rattle.format.proofs.Pairs.{lent-length}
+use Rattle.format.proofs.Track.Pairs.{lent-length}
 use Rattle.reader.specs.Finding.{judgedVisit}
 use Rattle.reader.specs.declared.walk.Visit.{Visit}
 use Rattle.reader.specs.declared.walk.Visit.the-variants.{At, Refused}

@@ -12,8 +12,8 @@ use Rattle.format.specs.Judged.{Judged, good, refused}
 use Rattle.format.specs.Lent.{lentForReading, cells}
 use Rattle.format.specs.Candidate.{Candidate, candidates}
 use Rattle.format.specs.Walk.{Visited, visited, step, placeAfter}
-use Rattle.format.proofs.Judged.{cases}
-use Rattle.format.proofs.WalkSteps.{steps, visits, walk-visits, walk-refuses}
+use Rattle.base.proofs.Tests.{cases}
+use Rattle.format.proofs.Find.WalkSteps.{steps, visits, walk-visits, walk-refuses}
 use Rattle.reader.proofs.FindSteps.{step-wrong}
 use Rattle.reader.specs.Finding.{judgedVisit}
 use Rattle.reader.specs.declared.walk.Visit.{Visit}

@@ -7,7 +7,7 @@ use mathlib.Core.List.{List, [], _∷_}
 use lib.Dec.{eqb}
 use borrow.Author.Tests.{eqb-true}
 use Rattle.crc.specs.Check.{digits, coefficients, divisor, bringDown, remainder, checkBytes}
-use Rattle.format.specs.Lent.{lengthRight, marksLegal, lentForWriting, lentForReading, cells, bytesOf, marksOf}
+use Rattle.format.specs.Lent.{lengthRight, marksLegal, lentForWriting, lentForReading, cells, bytesOf, marksOf, bothLent}
 use Rattle.format.specs.Opening.{opens, closing, closedAfter}
 use Rattle.format.specs.Flag.{homeFlagRight, sequenceRight, countFlagRight, namesItself}
 use Rattle.format.specs.Address.{addressIn, addressBytes, addressInRange, sameAddress, addressRight}
@@ -15,12 +15,12 @@ use Rattle.format.specs.Home.{homeFrom, findHome, homeBytes, homeOf, homeFields
 use Rattle.format.specs.Count.{countFits, countClosed, countAddressRight, countFieldsRight}
 use Rattle.format.specs.Block.{keySize, dataSize, dataOffset, blockEnd, leastGap, blocksFit, blockRight, blockInfo, keyRight, dataRight, keyInfo, dataInfo}
 use Rattle.format.specs.Span.{unmarkedRun, runsToIndex, spanLength, afterOpening, beforeOpening, laterSpans, spans}
-use Rattle.format.specs.Sector.{sectorIn, settle, judgeCount, readBlocks, judgeSector, readSpan}
-use Rattle.format.specs.Accept.{judgeMarks, readSpans, placedFrom, among, judgeNumbers, judgeBehind, acceptCells, accept}
+use Rattle.format.specs.Sector.{sectorIn, settle, judgeCount, readBlocks, judgeSector, readSpan, contentRight}
+use Rattle.format.specs.Accept.{judgeMarks, readSpans, placedFrom, among, judgeNumbers, judgeBehind, acceptCells, accept, endOf, fromNumber}
 use Rattle.format.specs.Written.{gapOne, countInfo, writtenBlock, writtenKey, writtenData, countOpening, writtenSector, asPair, gapAfter, reach, writtenSpans, writtenBehind}
-use Rattle.format.specs.Blank.{contentRight, namedBy, blankRight, writtenHead, blankSector, blank}
-use Rattle.format.specs.Add.{bothLent, endOf, fromNumber, judgeAbsent, addedFlag, addedSector, addedTo, addCells, add}
-use Rattle.format.proofs.Judged.{and-both}
+use Rattle.format.specs.Blank.{namedBy, blankRight, writtenHead, blankSector, blank}
+use Rattle.format.specs.Add.{judgeAbsent, addedFlag, addedSector, addedTo, addCells, add}
+use Rattle.base.proofs.Tests.{and-both}
 use Rattle.worked.specs.Tracks.{address, blankOf, twoSectors, acceptOf, numbers, placesIn, places, placesOf, sectorOf, byHand, answerByHand, answerOfZeros}
 use Rattle.worked.specs.Table.{Case, sameNumbers, allHold, EachHolds, starred, further}
 

@@ -8,10 +8,10 @@ use Rattle.format.specs.Judged.{Judged, good, refused, then, answerOf}
 use Rattle.format.specs.Address.{Address, addressBytes}
 use Rattle.format.specs.Block.{keyOffset, dataOffset}
 use Rattle.format.specs.Sector.{Sector, openingLength}
-use Rattle.format.specs.Accept.{Placed, Accepted, acceptCells, accept}
+use Rattle.format.specs.Accept.{Placed, Accepted, acceptCells, accept, endOf}
 use Rattle.format.specs.Written.{Pair, gapOne, homeGap, writtenBlock, writtenSector}
 use Rattle.format.specs.Blank.{blank}
-use Rattle.format.specs.Add.{add, endOf}
+use Rattle.format.specs.Add.{add}
 
 -- Cylinder c and head h.
 unfoldable pub address : ℕ → ℕ → Address

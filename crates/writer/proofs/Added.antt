@@ -12,15 +12,13 @@ use Rattle.format.specs.Judged.{good, refused}
 use Rattle.format.specs.Lent.{cells, bytesOf, marksOf}
 use Rattle.format.specs.Home.{Home}
 use Rattle.format.specs.Span.{joined, none}
-use Rattle.format.specs.Sector.{Sector}
-use Rattle.format.specs.Accept.{Placed, acceptCells}
+use Rattle.format.specs.Sector.{Sector, contentRight}
+use Rattle.format.specs.Accept.{Placed, acceptCells, endOf, fromNumber, lastOf}
 use Rattle.format.specs.Written.{gapOne, gapAfter, writtenSector, asPair, sectorSize}
-use Rattle.format.specs.Blank.{contentRight}
-use Rattle.format.specs.Add.{endOf, fromNumber, judgeAbsent, addedFlag, addedSector, addedTo, addCells}
-use Rattle.format.proofs.Judged.{false-true}
-use Rattle.format.proofs.Pairs.{pairOf, accepted-pair, length-bytes, length-marks}
-use Rattle.format.proofs.GrownSpans.{lastOf}
-use Rattle.format.proofs.NewSector.{addNeed, keptCells, length-kept, added-room}
+use Rattle.format.specs.Add.{judgeAbsent, addedFlag, addedSector, addedTo, addCells}
+use Rattle.base.proofs.Tests.{false-true}
+use Rattle.format.proofs.Track.Pairs.{pairOf, accepted-pair, length-bytes, length-marks}
+use Rattle.format.proofs.Add.NewSector.{addNeed, keptCells, length-kept, added-room}
 use Rattle.sector.specs.declared.fields.Address.{Address as AddressCode}
 use Rattle.sector.specs.As.{asAddress}
 use Rattle.encode.specs.Laid.{laidOver, laidAt}

@@ -12,14 +12,14 @@ use Rattle.format.specs.Judged.{good, refused}
 use Rattle.format.specs.Lent.{lengthRight, lentForWriting, bytesOf, marksOf}
 use Rattle.format.specs.Address.{Address, addressInRange, addressRight}
 use Rattle.format.specs.Block.{leastGap}
-use Rattle.format.specs.Sector.{Sector}
+use Rattle.format.specs.Sector.{Sector, contentRight}
 use Rattle.format.specs.Written.{writtenSector, reach, writtenSpans, writtenBehind, asPair, sectorSize}
-use Rattle.format.specs.Blank.{contentRight, namedBy, blankRight, writtenHead, blankSector, blank}
-use Rattle.format.proofs.Judged.{and-both}
-use Rattle.format.proofs.Pairs.{pairOf, length-bytes, length-marks}
+use Rattle.format.specs.Blank.{namedBy, blankRight, writtenHead, blankSector, blank}
+use Rattle.base.proofs.Tests.{and-both}
+use Rattle.format.proofs.Track.Pairs.{pairOf, length-bytes, length-marks}
 use Rattle.encode.specs.Laid.{laidOver, laidAt}
-use Rattle.format.proofs.ReadBack.{length-written}
-use Rattle.format.proofs.WrittenHome.{head-length}
+use Rattle.format.proofs.Sector.ReadBack.{length-written}
+use Rattle.format.proofs.Written.WrittenHome.{head-length}
 use Rattle.encode.proofs.Cells.{bytes-append, marks-append}
 use Rattle.writer.specs.Filled.{filledSpan}
 use Rattle.writer.proofs.Filled.{content-bounds, laid-to-end, take-over, filled-length}

@@ -8,26 +8,24 @@ use lib.ListN.{length, take}
 use lib.Seq.{length-take-le}
 use lib.Dec.{eqb}
 use borrow.Author.Tests.{le-leb, lt-leb}
-use Rattle.crc.specs.Pick.{pick}
+use Rattle.base.specs.Pick.{pick}
 use Rattle.format.specs.Answer.{sectorMissing, wantedWrong, roomMissing}
 use Rattle.format.specs.Judged.{good, refused}
 use Rattle.format.specs.Lent.{cells, bytesOf, marksOf, unmarked}
 use Rattle.format.specs.Block.{leastGap}
 use Rattle.format.specs.Span.{none}
-use Rattle.format.specs.Sector.{Sector}
-use Rattle.format.specs.Accept.{Placed, acceptCells}
+use Rattle.format.specs.Sector.{Sector, contentRight}
+use Rattle.format.specs.Accept.{Placed, acceptCells, fromNumber, sectorsOf}
 use Rattle.format.specs.Written.{gapOne, gapAfter, writtenSector, reach, writtenBehind, asPair, sectorSize}
-use Rattle.format.specs.Blank.{contentRight}
-use Rattle.format.specs.Add.{fromNumber}
-use Rattle.format.specs.Correct.{withContent, sectorsOf, rewrittenFrom, correctCells}
-use Rattle.format.proofs.Lists.{take-map}
-use Rattle.format.proofs.Pairs.{pairOf, accepted-pair, bytes-cells, marks-cells}
+use Rattle.format.specs.Correct.{withContent, rewrittenFrom, correctCells}
+use Rattle.base.proofs.Lists.{take-map}
+use Rattle.format.proofs.Track.Pairs.{pairOf, accepted-pair, bytes-cells, marks-cells}
 use Rattle.sector.specs.declared.fields.Address.{Address as AddressCode}
 use Rattle.sector.specs.As.{asAddress}
 use Rattle.encode.specs.Laid.{laidOver, laidAt}
 use Rattle.encode.specs.Room.{sectorFrom}
 use Rattle.encode.proofs.Cells.{bytes-append, marks-append}
-use Rattle.format.proofs.ReadBack.{length-written}
+use Rattle.format.proofs.Sector.ReadBack.{length-written}
 use Rattle.sectors.specs.declared.SectorAt.{SectorAt}
 use Rattle.sectors.specs.Stepped.{Stepped, steppedAt, addressAt, asStepped}
 use Rattle.sectors.proofs.From.{SectorsFrom, step-at, steps-end, accepted-start}

@@ -8,11 +8,10 @@ use lib.ListN.{length}
 use Rattle.format.specs.Lent.{cells}
 use Rattle.format.specs.Block.{keySize, dataSize}
 use Rattle.format.specs.Sector.{Sector, openingLength}
-use Rattle.format.specs.Accept.{Placed}
+use Rattle.format.specs.Accept.{Placed, sectorsOf}
 use Rattle.format.specs.Written.{gapOne, gapAfter, writtenSector, reach, sectorSize}
-use Rattle.format.specs.Correct.{sectorsOf}
-use Rattle.format.proofs.Sizes.{key-size-least, data-size-least}
-use Rattle.format.proofs.ReadBack.{length-written}
+use Rattle.format.proofs.Sector.Sizes.{key-size-least, data-size-least}
+use Rattle.format.proofs.Sector.ReadBack.{length-written}
 use Rattle.sectors.specs.declared.SectorAt.{SectorAt}
 use Rattle.sectors.specs.Stepped.{steppedAt, asStepped}
 use Rattle.sectors.proofs.Rest.{opening-least}

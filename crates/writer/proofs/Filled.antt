@@ -11,14 +11,13 @@ use borrow.Author.Tests.{leb-true}
 use borrow.Rule.Slice.PartMut.{putMid}
 use Rattle.format.specs.Lent.{bytesOf, marksOf}
 use Rattle.format.specs.Block.{keySize, dataSize}
-use Rattle.format.specs.Sector.{Sector, openingLength}
+use Rattle.format.specs.Sector.{Sector, openingLength, contentRight}
 use Rattle.format.specs.Written.{writtenSector, sectorSize}
-use Rattle.format.specs.Blank.{contentRight}
-use Rattle.format.proofs.Judged.{cases, and-both}
-use Rattle.format.proofs.Opening.{unmarked-replicate}
-use Rattle.format.proofs.Pairs.{length-bytes, length-marks, bytes-unmarked}
+use Rattle.base.proofs.Tests.{cases, and-both}
+use Rattle.format.proofs.Cells.Opening.{unmarked-replicate}
+use Rattle.format.proofs.Track.Pairs.{length-bytes, length-marks, bytes-unmarked}
 use Rattle.encode.specs.Laid.{laidOver, laidAt, laidIf, laidAtIf}
-use Rattle.format.proofs.Lists.{part-all}
+use Rattle.base.proofs.Lists.{part-all}
 use Rattle.encode.proofs.Laid.{laid-behind, laid-back-if}
 use Rattle.encode.proofs.Cells.{bytes-append, marks-append, marks-unmarked}
 use Rattle.writer.specs.Filled.{filledSpan}

@@ -8,8 +8,7 @@ use lib.ListN.{length}
 use lib.Dec.{eqb}
 use borrow.Author.Tests.{eq-eqb, ne-eqb}
 use Rattle.format.specs.Lent.{cells}
-use Rattle.format.specs.Accept.{Placed}
-use Rattle.format.specs.Add.{fromNumber}
+use Rattle.format.specs.Accept.{Placed, fromNumber}
 use Rattle.sectors.specs.declared.SectorAt.{SectorAt}
 use Rattle.sectors.specs.Stepped.{steppedAt, asStepped}
 use Rattle.sectors.proofs.From.{SectorsFrom, Step, step-at, steps-end}

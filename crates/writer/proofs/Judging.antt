@@ -8,13 +8,14 @@ use lib.Dec.{eqb}
 use borrow.Author.Tests.{eqb-true}
 use Rattle.format.specs.Answer.{Answer, lentWrong}
 use Rattle.format.specs.Judged.{Judged, good, refused, then}
-use Rattle.format.specs.Lent.{lentForReading, cells}
+use Rattle.format.specs.Lent.{lentForReading, cells, bothLent}
 use Rattle.format.specs.Home.{Home}
 use Rattle.format.specs.Accept.{Accepted, acceptCells, accept}
 use Rattle.format.specs.Written.{gapOne, asPair}
-use Rattle.format.specs.Add.{bothLent, addCells, add}
+use Rattle.format.specs.Add.{addCells, add}
 use Rattle.format.specs.Correct.{correctCells, correct}
-use Rattle.format.proofs.Judged.{and-both, good-inj, refused-good, then-good}
+use Rattle.format.proofs.Base.Judged.{good-inj, refused-good, then-good}
+use Rattle.base.proofs.Tests.{and-both}
 use Rattle.sector.specs.declared.fields.Home.{Home as HomeCode}
 use Rattle.sector.specs.As.{asHome}
 use Rattle.writer.specs.Remaining.{Readable, ReadableFlag}

@@ -6,14 +6,13 @@ use mathlib.Core.Bool.{Bool, false}
 use mathlib.Core.List.{List, [], _∷_, _++_, append-assoc, append-nil}
 use lib.ListN.{length, take, drop, replicate, length-drop}
 use lib.Seq.{take-length, length-take-le}
-use Rattle.crc.specs.Pick.{pick}
+use Rattle.base.specs.Pick.{pick}
 use Rattle.format.specs.Lent.{cells, bytesOf, marksOf}
 use Rattle.format.specs.Span.{joined, none}
 use Rattle.format.specs.Sector.{Sector}
-use Rattle.format.specs.Accept.{Placed}
+use Rattle.format.specs.Accept.{Placed, sectorsOf}
 use Rattle.format.specs.Written.{gapOne, gapAfter, writtenSector, reach, writtenSpans, sectorSize}
-use Rattle.format.specs.Correct.{sectorsOf}
-use Rattle.format.proofs.Pairs.{length-bytes, length-marks}
+use Rattle.format.proofs.Track.Pairs.{length-bytes, length-marks}
 use Rattle.sector.specs.declared.fields.Address.{Address as AddressCode}
 use Rattle.sector.specs.As.{asAddress}
 use Rattle.encode.specs.Laid.{laidAt}

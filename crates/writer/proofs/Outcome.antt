@@ -6,17 +6,18 @@ use mathlib.Core.Bool.{Bool, true}
 use mathlib.Core.List.{List}
 use lib.Dec.{leb}
 use borrow.Author.Tests.{leb-true, leb-false}
-use Rattle.crc.specs.Pick.{pick}
-use Rattle.format.specs.Answer.{Answer, answerAt, done, roomMissing}
+use Rattle.base.specs.Pick.{pick}
+use Rattle.format.specs.declared.Answer.{Answer as AnswerCode}
+use Rattle.format.specs.Answer.{Answer, asAnswer, done, roomMissing}
 use Rattle.format.specs.Judged.{Judged, answerOf}
 use Rattle.format.specs.Block.{leastGap}
 use Rattle.format.specs.Written.{Pair, trackAfter, marksAfter}
-use Rattle.format.proofs.Judged.{cases}
+use Rattle.base.proofs.Tests.{cases}
 
--- What the judgement of the room tells, whose answer has the number n and the place p.
-module _ (n p end l : ℕ) (e : answerAt n p ≡ pick (leb (end + leastGap true) l) done roomMissing) where
+-- What the judgement of the room tells, whose answer is r.
+module _ (r : AnswerCode) (end l : ℕ) (e : asAnswer r ≡ pick (leb (end + leastGap true) l) done roomMissing) where
   -- 0 where the last block ends 13 bytes before index or earlier,
-  pub room-done : n ≡ 0 → (end + 13 ≤ l) × (answerAt n p ≡ done)
+  pub room-done : r .number ≡ 0 → (end + 13 ≤ l) × (asAnswer r ≡ done)
   unfolding leastGap
   room-done z =
       cases (leb (end + 13) l)
@@ -24,7 +25,7 @@ module _ (n p end l : ℕ) (e : answerAt n p ≡ pick (leb (end + leastGap true)
       (λ b. absurd (omega (arith, z, ap (λ (a : Answer). a .number) (e ∙ ap (λ (t : Bool). pick t done roomMissing) b))))
 
   -- and 15 where it ends later.
-  pub room-short : (n ≡ 0 → ⊥) → (l < end + 13) × (answerAt n p ≡ roomMissing)
+  pub room-short : (r .number ≡ 0 → ⊥) → (l < end + 13) × (asAnswer r ≡ roomMissing)
   unfolding leastGap
   room-short z =
       cases (leb (end + 13) l)

@@ -4,15 +4,14 @@ use Prim.Native.Nat.{ℕ, _+_, _-_, _≤_}
 use mathlib.Core.Bool.{Bool, false}
 use mathlib.Core.List.{List, [], _∷_}
 use lib.ListN.{length}
-use Rattle.crc.specs.Pick.{pick}
+use Rattle.base.specs.Pick.{pick}
 use Rattle.format.specs.Judged.{good}
 use Rattle.format.specs.Lent.{cells}
 use Rattle.format.specs.Home.{firstCountPlace}
 use Rattle.format.specs.Span.{joined, none}
-use Rattle.format.specs.Accept.{Placed, Accepted, accept}
+use Rattle.format.specs.Accept.{Placed, Accepted, accept, fromNumber, sectorsOf}
 use Rattle.format.specs.Written.{gapOne, reach, writtenSpans}
-use Rattle.format.specs.Add.{fromNumber}
-use Rattle.format.specs.Correct.{withContent, sectorsOf}
+use Rattle.format.specs.Correct.{withContent}
 use Rattle.sectors.proofs.From.{SectorsFrom}
 
 -- The track t with the marks m is accepted, and its sector 0 opens at place `start`.

@@ -5,14 +5,13 @@ ghost use mathlib.Core.List.{List, [], _∷_, _++_};
 ghost use Prim.Native.Nat.{suc, _+_, _-_, _≤_, _<_};
 ghost use lib.ListN.{length, take, replicate};
 ghost use lib.Dec.{eqb};
-ghost use Rattle.format.specs.Answer.{answerAt};
+ghost use Rattle.format.specs.Answer.{asAnswer};
 ghost use Rattle.format.specs.Judged.{answerOf};
 ghost use Rattle.format.specs.Lent.{cells, bytesOf, marksOf};
-ghost use Rattle.format.specs.Accept.{Placed};
+ghost use Rattle.format.specs.Accept.{Placed, lastOf};
 ghost use Rattle.format.specs.Written.{gapOne, asPair, sectorSize, trackAfter, marksAfter};
-ghost use Rattle.format.specs.Blank.{contentRight};
+ghost use Rattle.format.specs.Sector.{contentRight};
 ghost use Rattle.format.specs.Add.{addedFlag, addCells, add};
-ghost use Rattle.format.proofs.GrownSpans.{lastOf};
 ghost use Rattle.encode.specs.Room.{sectorFrom};
 ghost use Rattle.sectors.proofs.From.{SectorsFrom};
 ghost use Rattle.writer.specs.Filled.{filledSpan};
@@ -98,7 +97,7 @@ fn add_behind(
     requires { ⌜ Addable (now track) (now marks) start f s ⌝ }
     requires { ⌜ (b7 ≤ 1) × (contentRight (now key) (now body) ≡ true) ⌝ }
     requires { ⌜ (length (now out) ≡ length (now track)) × (length (now «out_marks») ≡ length (now track)) ⌝ }
-    ensures answer { λ r. ⌜ answerAt (r .number) (r .place) ≡ answerOf (asPair (addCells gapOne (cells (now (track .entry)) (now (marks .entry))) b7 s (now (key .entry)) (now (body .entry)))) ⌝ }
+    ensures answer { λ r. ⌜ asAnswer r ≡ answerOf (asPair (addCells gapOne (cells (now (track .entry)) (now (marks .entry))) b7 s (now (key .entry)) (now (body .entry)))) ⌝ }
     ensures bytes { λ _. ⌜ now (out .exit) ≡ trackAfter (asPair (addCells gapOne (cells (now (track .entry)) (now (marks .entry))) b7 s (now (key .entry)) (now (body .entry)))) (now (out .entry)) ⌝ }
     ensures marks { λ _. ⌜ now («out_marks» .exit) ≡ marksAfter (asPair (addCells gapOne (cells (now (track .entry)) (now (marks .entry))) b7 s (now (key .entry)) (now (body .entry)))) (now («out_marks» .entry)) ⌝ }
 {
@@ -133,7 +132,7 @@ fn add_on(
 ) -> format::Answer
     requires { ⌜ ReadableFlag (now track) (now marks) start f ⌝ }
     requires { ⌜ (length (now out) ≡ length (now track)) × (length (now «out_marks») ≡ length (now track)) ⌝ }
-    ensures answer { λ r. ⌜ answerAt (r .number) (r .place) ≡ answerOf (asPair (addCells gapOne (cells (now (track .entry)) (now (marks .entry))) b7 s (now (key .entry)) (now (body .entry)))) ⌝ }
+    ensures answer { λ r. ⌜ asAnswer r ≡ answerOf (asPair (addCells gapOne (cells (now (track .entry)) (now (marks .entry))) b7 s (now (key .entry)) (now (body .entry)))) ⌝ }
     ensures bytes { λ _. ⌜ now (out .exit) ≡ trackAfter (asPair (addCells gapOne (cells (now (track .entry)) (now (marks .entry))) b7 s (now (key .entry)) (now (body .entry)))) (now (out .entry)) ⌝ }
     ensures marks { λ _. ⌜ now («out_marks» .exit) ≡ marksAfter (asPair (addCells gapOne (cells (now (track .entry)) (now (marks .entry))) b7 s (now (key .entry)) (now (body .entry)))) (now («out_marks» .entry)) ⌝ }
 {
@@ -161,7 +160,7 @@ pub fn add(
     key: &[u8],
     body: &[u8],
 ) -> format::Answer
-    ensures answer { λ r. ⌜ answerAt (r .number) (r .place) ≡ answerOf (add gapOne (now (track .entry)) (now (marks .entry)) (length (now («new_track» .entry))) (length (now («new_marks» .entry))) b7 s (now (key .entry)) (now (body .entry))) ⌝ }
+    ensures answer { λ r. ⌜ asAnswer r ≡ answerOf (add gapOne (now (track .entry)) (now (marks .entry)) (length (now («new_track» .entry))) (length (now («new_marks» .entry))) b7 s (now (key .entry)) (now (body .entry))) ⌝ }
     ensures bytes { λ _. ⌜ now («new_track» .exit) ≡ trackAfter (add gapOne (now (track .entry)) (now (marks .entry)) (length (now («new_track» .entry))) (length (now («new_marks» .entry))) b7 s (now (key .entry)) (now (body .entry))) (now («new_track» .entry)) ⌝ }
     ensures marks { λ _. ⌜ now («new_marks» .exit) ≡ marksAfter (add gapOne (now (track .entry)) (now (marks .entry)) (length (now («new_track» .entry))) (length (now («new_marks» .entry))) b7 s (now (key .entry)) (now (body .entry))) (now («new_marks» .entry)) ⌝ }
 {

@@ -4,7 +4,7 @@ ghost use mathlib.Core.Bool.{true};
 ghost use mathlib.Core.List.{_++_};
 ghost use Prim.Native.Nat.{_+_, _-_, _≤_};
 ghost use lib.ListN.{length};
-ghost use Rattle.format.specs.Answer.{answerAt};
+ghost use Rattle.format.specs.Answer.{asAnswer};
 ghost use Rattle.format.specs.Judged.{answerOf};
 ghost use Rattle.format.specs.Lent.{bytesOf, marksOf};
 ghost use Rattle.format.specs.Blank.{namedBy, blankRight, writtenHead, blankSector, blank};
@@ -79,7 +79,7 @@ pub fn blank(
     key: &[u8],
     body: &[u8],
 ) -> format::Answer
-    ensures answer { λ r. ⌜ answerAt (r .number) (r .place) ≡ answerOf (blank (length (now (track .entry))) (length (now (marks .entry))) (addressOf cylinder head) flag (addressOf «partner_cylinder» «partner_head») s (now (key .entry)) (now (body .entry))) ⌝ }
+    ensures answer { λ r. ⌜ asAnswer r ≡ answerOf (blank (length (now (track .entry))) (length (now (marks .entry))) (addressOf cylinder head) flag (addressOf «partner_cylinder» «partner_head») s (now (key .entry)) (now (body .entry))) ⌝ }
     ensures bytes { λ _. ⌜ now (track .exit) ≡ trackAfter (blank (length (now (track .entry))) (length (now (marks .entry))) (addressOf cylinder head) flag (addressOf «partner_cylinder» «partner_head») s (now (key .entry)) (now (body .entry))) (now (track .entry)) ⌝ }
     ensures marks { λ _. ⌜ now (marks .exit) ≡ marksAfter (blank (length (now (track .entry))) (length (now (marks .entry))) (addressOf cylinder head) flag (addressOf «partner_cylinder» «partner_head») s (now (key .entry)) (now (body .entry))) (now (marks .entry)) ⌝ }
 {

@@ -5,14 +5,13 @@ ghost use mathlib.Core.List.{List};
 ghost use Prim.Native.Nat.{_+_, _-_, _≤_};
 ghost use lib.ListN.{length, take};
 ghost use lib.Dec.{eqb, leb};
-ghost use Rattle.crc.specs.Pick.{pick};
-ghost use Rattle.format.specs.Answer.{answerAt, done, roomMissing};
-ghost use Rattle.format.specs.Lent.{bytesOf, marksOf};
+ghost use Rattle.base.specs.Pick.{pick};
+ghost use Rattle.format.specs.Answer.{asAnswer, done, roomMissing};
+ghost use Rattle.format.specs.Lent.{bytesOf, marksOf, bothLent};
 ghost use Rattle.format.specs.Block.{leastGap};
-ghost use Rattle.format.specs.Accept.{Placed};
+ghost use Rattle.format.specs.Accept.{Placed, fromNumber};
 ghost use Rattle.format.specs.Written.{gapOne, sectorSize};
-ghost use Rattle.format.specs.Blank.{contentRight};
-ghost use Rattle.format.specs.Add.{bothLent, fromNumber};
+ghost use Rattle.format.specs.Sector.{contentRight};
 ghost use Rattle.sectors.proofs.From.{SectorsFrom};
 ghost use Rattle.encode.specs.Laid.{laidOver, laidAt};
 ghost use Rattle.encode.specs.Room.{sectorFrom};
@@ -53,7 +52,7 @@ fn both_lent(track: &[u8], marks: &[u8], l: usize, k: usize) -> bool
 // The answer to whether there is room: 15 where the last block would end later than l - 13, else 0.
 fn judge_room(l: usize, end: usize) -> format::Answer
     requires { ⌜ 13 ≤ l ⌝ }
-    ensures { λ r. ⌜ answerAt (r .number) (r .place) ≡ pick (leb (end + leastGap true) l) done roomMissing ⌝ }
+    ensures { λ r. ⌜ asAnswer r ≡ pick (leb (end + leastGap true) l) done roomMissing ⌝ }
 {
     if l - 13 < end {
         return format::room_missing();

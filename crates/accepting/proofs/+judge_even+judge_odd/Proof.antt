@@ -6,7 +6,7 @@ use borrow.Author.Needs.{needs}
 use lib.ListN.{length, length-drop}
 use Rattle.format.specs.Count.{settled}
 use Rattle.sector.specs.As.{asAddress, asHome}
-use Rattle.format.proofs.Lists.{part-all}
+use Rattle.base.proofs.Lists.{part-all}
 use Rattle.accepting.proofs.AcceptAnswers.{answers-two}
 use Rattle.accepting.proofs.AcceptSpans.{front, rest-none, rest-next, front-refused, front-good}
 use borrow.Fn.Kinds.{In}

@@ -8,7 +8,7 @@ use borrow.Author.Needs.{needs}
 use Rattle.format.specs.Address.{addressBytes}
 use Rattle.format.specs.Written.{homeGap, writtenBlock}
 use Rattle.format.specs.Blank.{writtenHead}
-use Rattle.format.proofs.Field.{length-block}
+use Rattle.format.proofs.Cells.Field.{length-block}
 use Rattle.encode.specs.Laid.{laidAt}
 use Rattle.encode.specs.Room.{addressOf}
 use Rattle.encode.proofs.Laid.{laid-next}

@@ -9,12 +9,12 @@ use borrow.Author.Needs.{needs}
 use Rattle.format.specs.Lent.{bytesOf, unmarked}
 use Rattle.format.specs.Sector.{Sector}
 use Rattle.format.specs.Written.{innerGap, writtenKey, writtenData, writtenSector, sectorSize}
-use Rattle.format.proofs.Field.{length-key}
-use Rattle.format.proofs.Standing.{FitsCount}
+use Rattle.format.proofs.Cells.Field.{length-key}
+use Rattle.format.proofs.Sector.Standing.{FitsCount}
 use Rattle.encode.specs.Room.{sectorFrom}
 use Rattle.encode.specs.Bytes.{countBytes}
 use Rattle.encode.proofs.Laid.{laid-as, laid-next}
-use Rattle.format.proofs.Opening.{unmarked-below}
+use Rattle.format.proofs.Cells.Opening.{unmarked-below}
 use Rattle.encode.proofs.Sectors.{count-length, sector-bytes}
 use Rattle.encode.proofs.put_sector.Statement.{statement}
 use Rattle.encode.proofs.put_sector.Tie as tie

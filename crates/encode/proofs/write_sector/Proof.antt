@@ -7,12 +7,12 @@ use borrow.Author.Needs.{needs}
 use Rattle.format.specs.Lent.{marksOf, unmarked}
 use Rattle.format.specs.Sector.{Sector}
 use Rattle.format.specs.Written.{writtenSector, sectorSize}
-use Rattle.format.proofs.Standing.{FitsCount}
+use Rattle.format.proofs.Sector.Standing.{FitsCount}
 use Rattle.encode.specs.Room.{sectorFrom}
 use Rattle.encode.proofs.Laid.{laid-as}
 use Rattle.encode.proofs.Room.{first-short, second-short}
-use Rattle.format.proofs.Opening.{unmarked-below}
-use Rattle.format.proofs.ReadBack.{length-written}
+use Rattle.format.proofs.Cells.Opening.{unmarked-below}
+use Rattle.format.proofs.Sector.ReadBack.{length-written}
 use Rattle.encode.proofs.Sectors.{sector-marks, key-long, data-long, sector-unfit, sector-fits}
 use Rattle.encode.proofs.write_sector.Statement.{statement}
 use Rattle.encode.proofs.write_sector.Tie as tie

@@ -51,7 +51,7 @@ use denote.Triple.Spec.{Meets, tripleOf}
 use denote.Triple.Table.{entered, cited}
 use denote.Triple.Walked.{Stays, stay-none-slice, walkOf, goes-none-slice, Walks, ends-at, walked, walk-meets}
 use denote.Exit.{yes}
-use Rattle.format.specs.Answer.{answerAt}
+use Rattle.format.specs.Answer.{asAnswer}
 use Rattle.format.specs.Judged.{answerOf}
 use Rattle.format.specs.Listing.{list as records}
 use Rattle.listing.specs.Filling.{recordsOf, asRecords, filled, empty}
@@ -180,7 +180,7 @@ module _ {M : Type 1} (𝓤 : URA M) (H : Heap 𝓤) (A : Atoms 𝓤) (W : Given
 
   -- What `list` says of its answer, of its number of records, and of the array at the end.
   abbrev Answered : Listing → Type 0
-  Answered r = answerAt (r .answer .number) (r .answer .place) ≡ answerOf (records (length xs) (tr .now) (mk .now))
+  Answered r = asAnswer (r .answer) ≡ answerOf (records (length xs) (tr .now) (mk .now))
 
   abbrev Counted : Listing → Type 0
   Counted r = r .count ≡ length (recordsOf (records (length xs) (tr .now) (mk .now)))

@@ -1,6 +1,6 @@
 -- `cell_count` meets its contract.
 use native.Mathlib.Omega.{arith}
-use Rattle.format.proofs.Pairs.{length-cells}
+use Rattle.format.proofs.Track.Pairs.{length-cells}
 use Rattle.search.proofs.cell_count.Statement.{statement}
 use Rattle.search.proofs.cell_count.Tie as tie
 

@@ -7,7 +7,7 @@ use lib.ListN.{drop, length-drop}
 use lib.Seq.{drop-drop}
 use Rattle.format.specs.Lent.{cells}
 use Rattle.format.specs.Span.{unmarkedRun, spanLength}
-use Rattle.format.proofs.CandidateBytes.{run-le}
+use Rattle.format.proofs.Find.CandidateBytes.{run-le}
 use Rattle.search.proofs.Run.{runs-short, runs-on, runs-off, span-last, span-inner, span-le}
 use Rattle.search.proofs.span_at.Statement.{statement}
 use Rattle.search.proofs.span_at.Tie as tie

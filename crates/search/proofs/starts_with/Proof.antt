@@ -7,7 +7,7 @@ use borrow.Author.Needs.{needs}
 use lib.ListN.{length, drop, length-drop, drop-of-length-le}
 use Rattle.format.specs.Lent.{cells}
 use Rattle.format.specs.Opening.{startsWith}
-use Rattle.format.proofs.Opening.{starts-short}
+use Rattle.format.proofs.Cells.Opening.{starts-short}
 use Rattle.search.proofs.Cells.{other-byte, other-mark, same-cell}
 use Rattle.search.proofs.starts_with.Statement.{statement}
 use Rattle.search.proofs.starts_with.Tie as tie

@@ -4,7 +4,7 @@ use mathlib.Core.Logic.{⊎-elim}
 use Prim.Native.Nat.{ℕ, _+_}
 use native.Mathlib.Omega.{arith}
 use lib.Dec.{eqb}
-use Rattle.crc.specs.Pick.{pick}
+use Rattle.base.specs.Pick.{pick}
 use Rattle.format.specs.Block.{keyOffset}
 use Rattle.sector.proofs.Block.{offset-lt, end-lt}
 use Rattle.sectors.proofs.Rest.{key-place-none, key-place-some, stepped-made}

@@ -2,7 +2,7 @@
 use mathlib.Core.Path.{sym, _∙_}
 use borrow.Author.Needs.{needs}
 use borrow.Author.Tests.{eq-eqb, ne-eqb, not-true, not-false}
-use Rattle.format.specs.Add.{bothLent}
+use Rattle.format.specs.Lent.{bothLent}
 use Rattle.writer.proofs.both_lent.Statement.{statement}
 use Rattle.writer.proofs.both_lent.Tie as tie
 

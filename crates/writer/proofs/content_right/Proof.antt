@@ -1,7 +1,7 @@
 -- `content_right` meets its contract.
 use borrow.Author.Tests.{le-leb, lt-leb}
 use lib.ListN.{length}
-use Rattle.format.specs.Blank.{contentRight}
+use Rattle.format.specs.Sector.{contentRight}
 use Rattle.writer.proofs.content_right.Statement.{statement}
 use Rattle.writer.proofs.content_right.Tie as tie
 

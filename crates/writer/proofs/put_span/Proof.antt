@@ -10,12 +10,12 @@ use borrow.Author.Needs.{needs}
 use Rattle.format.specs.Lent.{bytesOf, marksOf}
 use Rattle.format.specs.Sector.{Sector}
 use Rattle.format.specs.Written.{writtenSector}
-use Rattle.format.proofs.Pairs.{length-bytes, length-marks}
+use Rattle.format.proofs.Track.Pairs.{length-bytes, length-marks}
 use Rattle.encode.specs.Laid.{laidAt}
 use Rattle.encode.specs.Room.{sectorFrom}
 use Rattle.encode.proofs.Laid.{length-laid}
 use Rattle.encode.proofs.Room.{gap-fits}
-use Rattle.format.proofs.ReadBack.{length-written}
+use Rattle.format.proofs.Sector.ReadBack.{length-written}
 use Rattle.encode.proofs.Sectors.{sector-fits}
 use Rattle.writer.proofs.Filled.{part-length, wrote-at, wrote-back, span-bytes, span-marks}
 use Rattle.writer.proofs.put_span.Statement.{statement}

@@ -6,7 +6,7 @@ use borrow.Author.Tests.{eqb-true, eqb-false}
 use lib.Bits.{bitAnd}
 use lib.Dec.{eqb}
 use lib.ListN.{length, getD}
-use Rattle.format.proofs.Judged.{cases}
+use Rattle.base.proofs.Tests.{cases}
 use Rattle.bitcells.proofs.reading.all_clocked.Statement.{statement}
 use Rattle.bitcells.proofs.reading.all_clocked.Tie as tie
 

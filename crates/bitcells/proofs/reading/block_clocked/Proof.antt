@@ -3,7 +3,7 @@ use Prim.Native.Nat.{ℕ, _+_, _-_, _*_, _<_}
 use native.Mathlib.Omega.{arith}
 use borrow.Author.Needs.{needs}
 use lib.ListN.{getD}
-use Rattle.format.proofs.Judged.{false-true}
+use Rattle.base.proofs.Tests.{false-true}
 use Rattle.bitcells.proofs.Passed.{clocked-legal}
 use Rattle.bitcells.proofs.reading.block_clocked.Statement.{statement}
 use Rattle.bitcells.proofs.reading.block_clocked.Tie as tie

@@ -4,7 +4,7 @@ use native.Mathlib.Omega.{arith}
 use borrow.Author.Needs.{needs}
 use borrow.Author.Tests.{not-true, not-false}
 use lib.ListN.{length}
-use Rattle.format.proofs.Outcome.{after-refused, after-good}
+use Rattle.format.proofs.Written.Outcome.{after-refused, after-good}
 use Rattle.bitcells.specs.FromCells.{readPair}
 use Rattle.bitcells.proofs.Outcome.{from-unlent, from-fault, from-done, from-lengths}
 use Rattle.bitcells.proofs.reading.from_cells.Statement.{statement}

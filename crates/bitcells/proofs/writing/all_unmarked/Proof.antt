@@ -5,7 +5,7 @@ use borrow.Author.Needs.{needs}
 use borrow.Author.Tests.{eqb-true, eqb-false}
 use lib.Dec.{eqb}
 use lib.ListN.{length, getD}
-use Rattle.format.proofs.Judged.{cases}
+use Rattle.base.proofs.Tests.{cases}
 use Rattle.bitcells.proofs.writing.all_unmarked.Statement.{statement}
 use Rattle.bitcells.proofs.writing.all_unmarked.Tie as tie
 

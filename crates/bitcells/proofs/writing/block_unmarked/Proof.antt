@@ -1,7 +1,7 @@
 -- `block_unmarked` meets its contract.
 use Prim.Native.Nat.{_+_, _-_}
 use native.Mathlib.Omega.{arith}
-use Rattle.format.proofs.Judged.{false-true}
+use Rattle.base.proofs.Tests.{false-true}
 use Rattle.bitcells.proofs.Passed.{part-unmarked}
 use borrow.Author.Needs.{needs}
 use Rattle.bitcells.proofs.writing.block_unmarked.Statement.{statement}

@@ -4,7 +4,7 @@ use native.Mathlib.Omega.{arith}
 use borrow.Author.Needs.{needs}
 use borrow.Author.Tests.{not-true, not-false}
 use lib.ListN.{length}
-use Rattle.format.proofs.Pairs.{lent-marks}
+use Rattle.format.proofs.Track.Pairs.{lent-marks}
 use Rattle.bitcells.specs.ToCells.{writtenCells}
 use Rattle.bitcells.proofs.Outcome.{to-unlent, to-fault, to-done, to-lent, cells-refused, cells-good}
 use Rattle.bitcells.proofs.writing.to_cells.Statement.{statement}

@@ -3,7 +3,7 @@ use mathlib.Core.Path.{sym, _∙_}
 use native.Mathlib.Omega.{arith}
 use lib.ListN.{drop, length-drop}
 use Rattle.format.specs.Lent.{cells}
-use Rattle.format.proofs.Pairs.{length-cells}
+use Rattle.format.proofs.Track.Pairs.{length-cells}
 use Rattle.search.proofs.Run.{span-le}
 use Rattle.reader.proofs.CandidateParts.{passing-yes, passing-open, passing-short}
 use borrow.Author.Needs.{needs}

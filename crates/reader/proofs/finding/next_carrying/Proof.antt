@@ -7,7 +7,7 @@ use Rattle.format.specs.Lent.{cells}
 use Rattle.format.specs.Count.{countNumber}
 use Rattle.format.specs.Find.{carrying}
 use Rattle.search.specs.Place.{judgedPlace}
-use Rattle.format.proofs.Pairs.{length-cells}
+use Rattle.format.proofs.Track.Pairs.{length-cells}
 use Rattle.reader.specs.Finding.{asCandidate}
 use Rattle.reader.proofs.CandidateNext.{candidatesAt, candidates-first, none-first}
 use Rattle.reader.proofs.FindPart.{carrying-here, carrying-other}

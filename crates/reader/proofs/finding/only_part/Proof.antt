@@ -5,7 +5,7 @@ use Rattle.format.specs.Answer.{Answer}
 use Rattle.format.specs.Judged.{refused}
 use Rattle.format.specs.Lent.{cells}
 use Rattle.search.specs.Place.{judgedPlace}
-use Rattle.format.proofs.Pairs.{length-cells}
+use Rattle.format.proofs.Track.Pairs.{length-cells}
 use Rattle.reader.specs.Finding.{asCandidate, asWanted}
 use Rattle.reader.proofs.CandidateNext.{carrying-first}
 use Rattle.reader.proofs.FindPart.{find-none, find-repeated, find-only}

@@ -2,7 +2,7 @@
 use mathlib.Core.Path.{sym, _∙_}
 use Prim.Native.Nat.{_-_}
 use native.Mathlib.Omega.{arith}
-use Rattle.format.proofs.CandidateBytes.{after-bytes}
+use Rattle.format.proofs.Find.CandidateBytes.{after-bytes}
 use borrow.Author.Needs.{needs}
 use Rattle.reader.proofs.pair.behind_opening.Statement.{statement}
 use Rattle.reader.proofs.pair.behind_opening.Tie as tie

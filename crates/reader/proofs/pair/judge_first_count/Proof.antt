@@ -2,7 +2,7 @@
 use mathlib.Core.Path.{sym, ap, _∙_}
 use Prim.Native.Nat.{ℕ}
 use mathlib.Core.List.{List}
-use Rattle.format.specs.Answer.{Answer, answerAt}
+use Rattle.format.specs.Answer.{asAnswer, Answer}
 use Rattle.format.specs.Judged.{refused, answerOf}
 use Rattle.format.specs.Lent.{cells}
 use Rattle.format.specs.Home.{firstCountPlace}
@@ -34,7 +34,7 @@ returns c =
     let k = c .before .before .judge-count in
     let e = k .ensures ∙ ap (λ (r : List ℕ). answerOf (judgeCount h 0 unsettled (firstCountPlace (h .place)) r)) (c .before .before .before .behind-opening .ensures) in
     let o = sym (c .before .before .before .before .before .opens-plain .ensures) ∙ c .before .before .before .before .if1 .taken in
-    (sym (count-refused h d (answerAt (k .result .number) (k .result .place)) o e (c .if2 .taken)), tt)
+    (sym (count-refused h d (asAnswer (k .result)) o e (c .if2 .taken)), tt)
 
 first-count-missing-requires : tie.Need-first-count-missing-requires
 first-count-missing-requires c κs = search needs
@@ -47,7 +47,7 @@ returns-2 c =
     let k = c .before .before .judge-count in
     let e = k .ensures ∙ ap (λ (r : List ℕ). answerOf (judgeCount h 0 unsettled (firstCountPlace (h .place)) r)) (c .before .before .before .behind-opening .ensures) in
     let o = sym (c .before .before .before .before .before .opens-plain .ensures) ∙ c .before .before .before .before .if1 .taken in
-    (sym (count-right h d (answerAt (k .result .number) (k .result .place)) o e (c .if2 .left)), c .before .before .before .before .before .before .before .before .before .pre)
+    (sym (count-right h d (asAnswer (k .result)) o e (c .if2 .left)), c .before .before .before .before .before .before .before .before .before .pre)
 
 returns-3 : tie.Need-returns-3
 returns-3 c =

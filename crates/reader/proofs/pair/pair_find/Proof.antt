@@ -2,7 +2,7 @@
 use mathlib.Core.Path.{refl}
 use native.Mathlib.Omega.{arith}
 use Rattle.format.specs.Find.{partOf}
-use Rattle.format.proofs.Judged.{cases}
+use Rattle.base.proofs.Tests.{cases}
 use Rattle.reader.proofs.CandidateParts.{part-is}
 use borrow.Author.Needs.{needs}
 use Rattle.reader.proofs.pair.pair_find.Statement.{statement}

@@ -3,7 +3,7 @@ use mathlib.Core.Path.{sym, _∙_}
 use native.Mathlib.Omega.{arith}
 use borrow.Author.Tests.{eq-eqb, ne-eqb}
 use Rattle.format.specs.Opening.{plainOpening}
-use Rattle.format.proofs.Opening.{starts-short}
+use Rattle.format.proofs.Cells.Opening.{starts-short}
 use Rattle.sector.proofs.Opening.{plain-six}
 use borrow.Author.Needs.{needs}
 use Rattle.sector.proofs.bytes.starts_plain.Statement.{statement}

@@ -4,7 +4,7 @@ use native.Mathlib.Omega.{arith}
 use lib.ListN.{length}
 use borrow.Author.Needs.{needs}
 use borrow.Author.Tests.{not-true, not-false}
-use Rattle.format.proofs.Outcome.{after-refused}
+use Rattle.format.proofs.Written.Outcome.{after-refused}
 use Rattle.writer.proofs.Outcome.{after-same}
 use Rattle.format.specs.Accept.{accept}
 use Rattle.writer.proofs.Judging.{judged-flag, judged-refused, both-lengths, add-lent, add-refused, add-cells}

@@ -10,12 +10,12 @@ use Rattle.format.specs.Lent.{unmarked}
 use Rattle.format.specs.Sector.{Sector}
 use Rattle.format.specs.Written.{gapOne}
 use Rattle.format.specs.Add.{addedFlag, addedSector}
-use Rattle.format.proofs.GrownSpans.{lastOf}
+use Rattle.format.specs.Accept.{lastOf}
 use Rattle.encode.specs.Room.{sectorFrom}
-use Rattle.format.proofs.Opening.{unmarked-below}
+use Rattle.format.proofs.Cells.Opening.{unmarked-below}
 use Rattle.sectors.proofs.From.{SectorsFrom}
 use Rattle.writer.specs.Filled.{filledSpan}
-use Rattle.format.proofs.Outcome.{after-refused, after-good}
+use Rattle.format.proofs.Written.Outcome.{after-refused, after-good}
 use Rattle.writer.proofs.Outcome.{room-done, room-short}
 use Rattle.writer.proofs.Filled.{content-bounds, size-most}
 use Rattle.writer.proofs.Corrected.{readable-remaining, readable-lengths, kept-bytes, kept-marks}
@@ -137,7 +137,7 @@ write-added-requires c κs =
     let x = c .before .before .before .before .before .before .before .before .before .before .before .sector-at in
     let k = readable-lengths t m (a .start) r in
     let judged = c .before .before .before .before .before .before .judge-room in
-    let room = room-done (judged .result .number) (judged .result .place) (x .result .end + c .before .before .before .before .before .before .before .before .gap-one .result + c .before .before .before .before .before .before .before .sector-size .result) (length t) (judged .ensures) (c .before .before .before .before .if1 .taken) in
+    let room = room-done (judged .result) (x .result .end + c .before .before .before .before .before .before .before .before .gap-one .result + c .before .before .before .before .before .before .before .sector-size .result) (length t) (judged .ensures) (c .before .before .before .before .if1 .taken) in
     let long = c .before .before .before .before .before .before .before .before .before .before .before .before .before .before .before .before .before .before .before .pre .1 .1 in
     (content-bounds (a .key .now) (a .body .now) (c .before .before .before .before .before .before .before .before .before .before .before .before .before .before .before .before .before .before .before .pre .1 .0 .1), ((omega arith, omega (arith, room .0, c .before .before .before .before .before .before .before .sector-size .ensures)), (k .1, long .0, long .1)))
 
@@ -164,7 +164,7 @@ returns c =
     let end = x .result .end in
     let to = end + c .before .before .before .before .before .before .before .before .before .before .before .before .before .gap-one .result in
     let judged = c .before .before .before .before .before .before .before .before .before .before .before .judge-room in
-    let room = room-done (judged .result .number) (judged .result .place) (x .result .end + c .before .before .before .before .before .before .before .before .before .before .before .before .before .gap-one .result + c .before .before .before .before .before .before .before .before .before .before .before .before .sector-size .result) (length t) (judged .ensures) (c .before .before .before .before .before .before .before .before .before .if1 .taken) in
+    let room = room-done (judged .result) (x .result .end + c .before .before .before .before .before .before .before .before .before .before .before .before .before .gap-one .result + c .before .before .before .before .before .before .before .before .before .before .before .before .sector-size .result) (length t) (judged .ensures) (c .before .before .before .before .before .before .before .before .before .if1 .taken) in
     let h = r .accepted .home in
     let ad = c .before .before .before .before .before .before .before .before .address-at in
     let wrote = c .before .before .before .before .write-added in
@@ -198,7 +198,7 @@ returns-2 c =
     let f : SectorsFrom t m p (eqb p (a .start)) (lastOf (z .x) (z .xs) ∷ []) = last .ensures (z .x) (z .xs) (z .steps) .0 in
     let x = c .before .before .before .before .before .before .before .sector-at in
     let judged = c .before .before .judge-room in
-    let room = room-short (judged .result .number) (judged .result .place) (x .result .end + c .before .before .before .before .gap-one .result + c .before .before .before .sector-size .result) (length t) (judged .ensures) (c .if1 .left) in
+    let room = room-short (judged .result) (x .result .end + c .before .before .before .before .gap-one .result + c .before .before .before .sector-size .result) (length t) (judged .ensures) (c .if1 .left) in
     after-refused _ _ _ (a .out .now) (a .out-marks .now)
     (add-short t m (a .start) r (a .b7) (a .s) (a .key .now) (a .body .now) (c .before .before .before .before .before .before .before .before .before .before .before .before .before .before .before .pre .1 .0 .0) (c .before .before .before .before .before .before .before .before .before .before .before .before .before .before .before .pre .1 .0 .1) (c .before .before .before .before .before .before .before .before .before .before .before .before .before .before .before .pre .0 .absent) (z .x) (z .xs) (z .all) (x .result .end) (x .result .end + c .before .before .before .before .gap-one .result)
     (last-end t m p (eqb p (a .start)) y f (x .result) (x .ensures)) (ap (λ (n : ℕ). x .result .end + n) (c .before .before .before .before .gap-one .ensures ∙ last-gap t m p (eqb p (a .start)) y f (x .result) (x .ensures))) (omega (arith, last-inside t m p (eqb p (a .start)) y f (x .result) (x .ensures)))

@@ -1,7 +1,7 @@
 -- `add_on` meets its contract: 14 and 13 before anything is written, then Add behind the last sector.
 use mathlib.Core.Path.{sym, _∙_}
 use borrow.Author.Tests.{not-true, not-false}
-use Rattle.format.proofs.Outcome.{after-refused}
+use Rattle.format.proofs.Written.Outcome.{after-refused}
 use Rattle.writer.proofs.Corrected.{readable-steps, readable-remaining, found-at, found-none}
 use Rattle.writer.proofs.Added.{add-overflow, add-wanted, add-repeated}
 use borrow.Author.Needs.{needs}

@@ -9,7 +9,7 @@ use Rattle.format.specs.Sector.{Sector}
 use Rattle.format.specs.Written.{writtenSector}
 use Rattle.encode.specs.Room.{sectorFrom}
 use Rattle.encode.proofs.Room.{gap-fits}
-use Rattle.format.proofs.ReadBack.{length-written}
+use Rattle.format.proofs.Sector.ReadBack.{length-written}
 use Rattle.writer.proofs.Filled.{wrote-at}
 use Rattle.writer.proofs.Added.{added-bytes, added-marks}
 use borrow.Author.Needs.{needs}

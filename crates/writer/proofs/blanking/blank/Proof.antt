@@ -9,8 +9,8 @@ use borrow.Author.Tests.{not-true, not-false}
 use Rattle.format.specs.Lent.{bytesOf, marksOf}
 use Rattle.format.specs.Address.{Address}
 use Rattle.format.specs.Blank.{namedBy, writtenHead, blankSector}
-use Rattle.format.proofs.Outcome.{after-refused, after-good}
-use Rattle.format.proofs.Pairs.{pairOf}
+use Rattle.format.proofs.Written.Outcome.{after-refused, after-good}
+use Rattle.format.proofs.Track.Pairs.{pairOf}
 use Rattle.sector.specs.As.{asAddress}
 use Rattle.encode.specs.Room.{addressOf}
 use Rattle.writer.specs.Filled.{filledSpan}
@@ -83,7 +83,7 @@ write-blank-requires c κs =
     let h = blank-content _ _ _ (a .key .now) (a .body .now) (sym (c .before .before .before .before .before .before .before .before .blank-right .ensures) ∙ not-false _ (c .before .before .before .before .before .before .before .if2 .left)) in
     let e : length (a .marks .now) ≡ length (a .track .now) = lent-same _ _ (sym (c .before .before .before .before .before .before .before .before .before .before .lent-for-writing .ensures) ∙ not-false _ (c .before .before .before .before .before .before .before .before .before .if1 .left)) in
     let judged = c .before .before .before .before .before .judge-room in
-    let room = room-done (judged .result .number) (judged .result .place) (55 + c .before .before .before .before .before .before .sector-size .result) (length (a .track .now)) (judged .ensures) (c .before .before .before .if3 .taken) in
+    let room = room-done (judged .result) (55 + c .before .before .before .before .before .before .sector-size .result) (length (a .track .now)) (judged .ensures) (c .before .before .before .if3 .taken) in
     (h, (omega (arith, room .0, c .before .before .before .before .before .before .sector-size .ensures), e))
 
 same-length : tie.Need-same-length
@@ -96,7 +96,7 @@ returns-3 : tie.Need-returns-3
 returns-3 c =
     let a = c .before .before .before .before .before .before .before .before .before .before .before .before .before .before .before .before .before .before .before .before .args in
     let judged = c .before .before .before .before .before .before .before .before .before .before .judge-room in
-    let room = room-done (judged .result .number) (judged .result .place) (55 + c .before .before .before .before .before .before .before .before .before .before .before .sector-size .result) (length (a .track .now)) (judged .ensures) (c .before .before .before .before .before .before .before .before .if3 .taken) in
+    let room = room-done (judged .result) (55 + c .before .before .before .before .before .before .before .before .before .before .before .sector-size .result) (length (a .track .now)) (judged .ensures) (c .before .before .before .before .before .before .before .before .if3 .taken) in
     let T = a .track .now in
     let M = a .marks .now in
     let own : Address = addressOf (a .cylinder) (a .head) in
@@ -117,7 +117,7 @@ returns-4 : tie.Need-returns-4
 returns-4 c =
     let a = c .before .before .before .before .before .before .before .before .before .before .before .before .args in
     let judged = c .before .before .judge-room in
-    let room = room-short (judged .result .number) (judged .result .place) (55 + c .before .before .before .sector-size .result) (length (a .track .now)) (judged .ensures) (c .if3 .left) in
+    let room = room-short (judged .result) (55 + c .before .before .before .sector-size .result) (length (a .track .now)) (judged .ensures) (c .if3 .left) in
     after-refused _ _ _ (a .track .now) (a .marks .now)
     (blank-short (length (a .track .now)) (length (a .marks .now)) (addressOf (a .cylinder) (a .head)) (a .flag) (addressOf (a .partner-cylinder) (a .partner-head)) (a .s) (a .key .now) (a .body .now)
     (sym (c .before .before .before .before .before .before .before .lent-for-writing .ensures) ∙ not-false _ (c .before .before .before .before .before .before .if1 .left))

@@ -10,7 +10,7 @@ use Rattle.format.specs.Blank.{blankSector}
 use Rattle.sector.specs.As.{asAddress}
 use Rattle.encode.specs.Room.{headSize}
 use Rattle.encode.proofs.Room.{both-fit}
-use Rattle.format.proofs.ReadBack.{length-written}
+use Rattle.format.proofs.Sector.ReadBack.{length-written}
 use Rattle.writer.proofs.Filled.{wrote-over}
 use Rattle.writer.proofs.Blanked.{blank-bytes, blank-marks}
 use borrow.Author.Needs.{needs}

@@ -10,11 +10,11 @@ use borrow.Author.Needs.{needs}
 use borrow.Author.Tests.{not-true, not-false}
 use Rattle.format.specs.Lent.{cells, unmarked}
 use Rattle.format.specs.Accept.{Placed}
-use Rattle.format.proofs.Opening.{unmarked-below}
+use Rattle.format.proofs.Cells.Opening.{unmarked-below}
 use Rattle.sectors.proofs.From.{SectorsFrom}
 use Rattle.writer.specs.Remaining.{correctedEnd, correctedCells}
-use Rattle.format.proofs.Outcome.{after-refused, after-good}
-use Rattle.format.proofs.Pairs.{pairOf}
+use Rattle.format.proofs.Written.Outcome.{after-refused, after-good}
+use Rattle.format.proofs.Track.Pairs.{pairOf}
 use Rattle.writer.proofs.Outcome.{room-done, room-short}
 use Rattle.writer.proofs.Filled.{content-bounds}
 use Rattle.writer.proofs.Corrected.{readable-steps, readable-remaining, readable-lengths, found-remaining, found-at, found-none, kept-bytes, kept-marks, correct-wanted, correct-missing, correct-short, correct-done}
@@ -76,7 +76,7 @@ write-corrected-requires c κs =
     let q = c .before .before .before .before .before .before .before .place-of .result in
     let k = readable-lengths t m (a .start) r in
     let judged = c .before .before .before .before .judge-room in
-    let fits = room-done (judged .result .number) (judged .result .place) (c .before .before .before .before .before .corrected-end .result) (length t) (judged .ensures) (c .before .before .if3 .taken) in
+    let fits = room-done (judged .result) (c .before .before .before .before .before .corrected-end .result) (length t) (judged .ensures) (c .before .before .if3 .taken) in
     let room : (x : Placed) (xs : List Placed) → SectorsFrom t m q (eqb q (a .start)) (x ∷ xs) → correctedEnd q (a .key .now) (a .body .now) x xs ≤ length t =
     λ x xs f. omega (arith, c .before .before .before .before .before .corrected-end .ensures x xs f, fits .0) in (
       found-remaining t m (a .start) q (a .s) r (c .before .before .before .before .before .before .before .place-of .ensures (r .accepted .sectors) (readable-steps t m (a .start) r)),
@@ -105,7 +105,7 @@ returns-3 c =
     let z = found-at t m (a .start) q (a .s) r (c .before .before .before .before .before .before .before .before .before .before .before .before .place-of .ensures (r .accepted .sectors) (readable-steps t m (a .start) r)) (c .before .before .before .before .before .before .before .before .before .before .before .if2 .left) in
     let end : c .before .before .before .before .before .before .before .before .before .before .corrected-end .result ≡ correctedEnd q (a .key .now) (a .body .now) (z .sector) (z .later) = c .before .before .before .before .before .before .before .before .before .before .corrected-end .ensures (z .sector) (z .later) (z .steps) in
     let judged = c .before .before .before .before .before .before .before .before .before .judge-room in
-    let fits = room-done (judged .result .number) (judged .result .place) (c .before .before .before .before .before .before .before .before .before .before .corrected-end .result) (length t) (judged .ensures) (c .before .before .before .before .before .before .before .if3 .taken) in
+    let fits = room-done (judged .result) (c .before .before .before .before .before .before .before .before .before .before .corrected-end .result) (length t) (judged .ensures) (c .before .before .before .before .before .before .before .if3 .taken) in
     let W : ℕ → List ℕ = λ l. correctedCells l q (a .key .now) (a .body .now) (z .sector) (z .later) in
     let bytes : unmarked t ≡ true = unmarked-below t (λ i. omega (arith, c .before .before .before .before .before .before .before .before .before .before .before .before .before .before .before .before .before .before .before .before .shared-slice-known .given i)) in
     after-good _ _ (pairOf (take q (cells t m) ++ W (length (cells t m)))) (a .out .now) (a .out-marks .now) (wrote .last .1 .1 .0) (wrote .last .1 .1 .1 .0)
@@ -126,7 +126,7 @@ returns-4 c =
     let z = found-at t m (a .start) q (a .s) r (c .before .before .before .before .before .place-of .ensures (r .accepted .sectors) (readable-steps t m (a .start) r)) (c .before .before .before .before .if2 .left) in
     let end : c .before .before .before .corrected-end .result ≡ correctedEnd q (a .key .now) (a .body .now) (z .sector) (z .later) = c .before .before .before .corrected-end .ensures (z .sector) (z .later) (z .steps) in
     let judged = c .before .before .judge-room in
-    let fits = room-short (judged .result .number) (judged .result .place) (c .before .before .before .corrected-end .result) (length t) (judged .ensures) (c .if3 .left) in
+    let fits = room-short (judged .result) (c .before .before .before .corrected-end .result) (length t) (judged .ensures) (c .if3 .left) in
     after-refused _ _ _ (a .out .now) (a .out-marks .now)
     (correct-short t m (a .start) r (a .s) (a .key .now) (a .body .now) (sym (c .before .before .before .before .before .before .before .content-right .ensures) ∙ not-false _ (c .before .before .before .before .before .before .if1 .left))
     (z .sector) (z .later) (z .split) q (z .place-is) (omega (arith, c .before .before .before .before .if2 .left, u .cells-length)) (omega (arith, fits .0, end, u .cells-length)))

@@ -1,0 +1,3 @@
+-- What definitions of every crate use.
+pub mod Pick
+pub mod Lists

@@ -1,0 +1,29 @@
+-- Taking outcomes apart: what a good outcome says of the tests and steps that it passed.
+use mathlib.Core.Path.{_≡_, refl}
+use Prim.Native.Nat.{ℕ}
+use native.Mathlib.Omega.{arith}
+use mathlib.Core.Bool.{Bool, true, false}
+use Rattle.base.specs.Pick.{pick}
+use Rattle.base.proofs.Tests.{false-true}
+use Rattle.format.specs.Answer.{Answer}
+use Rattle.format.specs.Judged.{Judged, good, refused, then, require}
+
+pub good-inj : {A : Type 0} (x y : A) → _≡_ {A = Judged A} (good x) (good y) → x ≡ y
+good-inj x y e = cc
+
+pub refused-good {ℓ} : {A : Type 0} {X : Type ℓ} (a : Answer) (y : A) → _≡_ {A = Judged A} (refused a) (good y) → X
+refused-good a y e = absurd (let z : _≡_ {A = ℕ} 0 1 = cc in omega arith)
+
+-- A step that ends well began well.
+pub then-good : {A B : Type 0} (j : Judged A) (k : A → Judged B) (y : B) → then j k ≡ good y → (x : A) × (j ≡ good x) × (k x ≡ good y)
+then-good (good x) k y e = (x, refl, e)
+then-good (refused a) k y e = refused-good a y e
+
+-- A test that let an outcome through held.
+pub require-good : {A : Type 0} (b : Bool) (a : Answer) (j : Judged A) (y : A) → require b a j ≡ good y → (b ≡ true) × (j ≡ good y)
+require-good true a j y e = (refl, e)
+require-good false a j y e = refused-good a y e
+
+pub require-holds : {A : Type 0} (b : Bool) (a : Answer) (j k : Judged A) → b ≡ true → j ≡ k → require b a j ≡ k
+require-holds true a j k e h = h
+require-holds false a j k e h = false-true e

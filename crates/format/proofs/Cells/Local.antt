@@ -1,0 +1,47 @@
+-- What is looked at before the end of xs does not see what follows xs.
+use mathlib.Core.Path.{_≡_, sym, _∙_}
+use Prim.Native.Nat.{ℕ, _+_, _≤_, _<_}
+use native.Mathlib.Omega.{arith}
+use mathlib.Core.List.{List, _++_}
+use lib.ListN.{length, take, drop, getD, length-drop, List·getD-append}
+use lib.Seq.{take-append-le, drop-append-le, drop-drop}
+use Rattle.format.specs.Opening.{startsWith, plainOpening, closing, closedAfter}
+use Rattle.format.specs.Block.{blockRight, blockInfo}
+use Rattle.format.proofs.Cells.Opening.{starts-with-append}
+use Rattle.format.proofs.Cells.Field.{length-closing}
+
+module _ (xs ys zs : List ℕ) where
+  -- A cell.
+  pub byte-local : (j : ℕ) → j < length xs → getD (xs ++ zs) j 0 ≡ getD (xs ++ ys) j 0
+  byte-local j h = List·getD-append xs zs 0 j h ∙ sym (List·getD-append xs ys 0 j h)
+
+  -- Whether the list o stands at place j.
+  pub starts-local : (o : List ℕ) (j : ℕ) → j + length o ≤ length xs → startsWith o (drop j (xs ++ zs)) ≡ startsWith o (drop j (xs ++ ys))
+  starts-local o j h =
+      let l : length o ≤ length (drop j xs) = omega (arith, length-drop j xs) in
+      rw (drop-append-le j xs ys (omega arith), drop-append-le j xs zs (omega arith), starts-with-append o (drop j xs) ys l, starts-with-append o (drop j xs) zs l)
+
+  -- The n cells from place j on.
+  pub take-local : (n j : ℕ) → j + n ≤ length xs → take n (drop j (xs ++ zs)) ≡ take n (drop j (xs ++ ys))
+  take-local n j h =
+      let l : n ≤ length (drop j xs) = omega (arith, length-drop j xs) in
+      rw (drop-append-le j xs ys (omega arith), drop-append-le j xs zs (omega arith), take-append-le n (drop j xs) ys l, take-append-le n (drop j xs) zs l)
+
+  -- Whether the n bytes from place j on are closed rightly.
+  pub closed-local : (n j : ℕ) → j + n + 3 ≤ length xs → closedAfter n (drop j (xs ++ zs)) ≡ closedAfter n (drop j (xs ++ ys))
+  unfolding closedAfter
+  closed-local n j h =
+      let c : List ℕ = closing (take n (drop j (xs ++ ys))) in
+      rw (take-local n j (omega arith), drop-drop n j (xs ++ zs), drop-drop n j (xs ++ ys))
+      (starts-local c (j + n) (omega (arith, length-closing (take n (drop j (xs ++ ys))))))
+
+  -- A block of n information bytes, with its opening, check and closing byte.
+  pub block-local : (n j : ℕ) → j + n + 9 ≤ length xs → blockRight n (drop j (xs ++ zs)) ≡ blockRight n (drop j (xs ++ ys))
+  unfolding blockRight
+  block-local n j h =
+      rw (starts-local plainOpening j (omega arith), drop-drop 6 j (xs ++ zs), drop-drop 6 j (xs ++ ys), closed-local n (j + 6) (omega arith))
+
+  -- Its information.
+  pub info-local : (n j : ℕ) → j + n + 6 ≤ length xs → blockInfo n (drop j (xs ++ zs)) ≡ blockInfo n (drop j (xs ++ ys))
+  unfolding blockInfo
+  info-local n j h = rw (drop-drop 6 j (xs ++ zs), drop-drop 6 j (xs ++ ys), take-local n (j + 6) (omega arith))

@@ -1,0 +1,164 @@
+-- Spans that are read, cut as a track's are and clean, have exactly their sectors as candidates.
+use mathlib.Core.Path.{_≡_, refl, sym, ap, ap₂, _∙_}
+use Prim.Native.Nat.{ℕ, zero, suc, _+_, _≤_, _<_}
+use native.Mathlib.Omega.{arith}
+use mathlib.Core.Bool.{Bool, true, false, _||_}
+use mathlib.Core.List.{List, [], _∷_, _++_, append-assoc, append-nil}
+use lib.ListN.{length, drop}
+use lib.Dec.{eqb}
+use borrow.Author.Tests.{eq-eqb, ne-eqb}
+use Rattle.format.specs.Judged.{Judged, good}
+use Rattle.format.specs.Opening.{plainOpening, opens}
+use Rattle.format.specs.Home.{Home, firstCountPlace}
+use Rattle.format.specs.Count.{Settled}
+use Rattle.format.specs.Span.{beforeOpening, laterSpans, joined, none, cleanSpan, cleanSpans}
+use Rattle.format.specs.Sector.{Sector, openingLength, isFirst, settle, sectorIn}
+use Rattle.format.specs.Accept.{Placed, placedFrom}
+use Rattle.format.specs.Candidate.{Candidate, firstOpensAt, candidateAt, countPasses, standsAt, candidatesFrom}
+use Rattle.base.proofs.Tests.{cases, and-both, and-make}
+use Rattle.format.proofs.Spans.Shape.{Shape}
+use Rattle.format.proofs.Cells.Opening.{starts-with-append, opens-seam}
+use Rattle.format.proofs.Spans.Cutting.{opens-joined}
+use Rattle.format.proofs.Spans.SpanAgrees.{span-agrees}
+use Rattle.format.proofs.Sector.ReadSector.{ReadAs, read-inv, span-least}
+use Rattle.format.proofs.Sector.ReadsAs.{Reads}
+
+-- The candidates that placed sectors are to be found as.
+unfoldable pub candidatesOf : List Placed → List Candidate
+candidatesOf [] = []
+candidatesOf (x ∷ xs) =
+    record {
+      place = x .place;
+      first = x .sector .first;
+      last = none xs;
+      rest = drop (openingLength (x .sector .first)) (x .span);
+    }
+    ∷ candidatesOf xs
+
+-- Whether an opening stands before later spans does not turn on them.
+pub joined-seam : (i : ℕ) (gs : List (List ℕ)) → Shape (suc i) gs → (x : ℕ) (xs : List ℕ) → opens (x ∷ (xs ++ joined gs)) ≡ opens (x ∷ xs)
+joined-seam i [] s x xs = ap (λ (r : List ℕ). opens (x ∷ r)) (append-nil xs)
+joined-seam i (g ∷ gs) s x xs = opens-seam x xs (joined (g ∷ gs)) (opens-joined i g gs s)
+
+no-opening : (x : ℕ) (xs : List ℕ) → laterSpans (x ∷ xs) ≡ [] → (opens (x ∷ xs) ≡ false) × (laterSpans xs ≡ [])
+unfolding laterSpans
+no-opening x xs e =
+    cases (opens (x ∷ xs))
+    (λ o. let z : ((x ∷ beforeOpening xs) ∷ laterSpans xs) ≡ [] = rw o at e in absurd (let w : _≡_ {A = ℕ} 0 1 = cc in omega arith))
+    (λ o. (o, rw o at e))
+
+-- Where nothing opens there is no candidate.
+pub passed-over : (h p : ℕ) (xs ys r : List ℕ) → laterSpans (xs ++ ys) ≡ [] → ((x : ℕ) (zs : List ℕ) → opens (x ∷ (zs ++ r)) ≡ opens (x ∷ zs))
+    → ((k : ℕ) → k < length xs → p + k ≡ firstCountPlace h → ⊥)
+    → candidatesFrom (good h) p (xs ++ (ys ++ r)) ≡ candidatesFrom (good h) (p + length xs) (ys ++ r)
+unfolding candidatesFrom standsAt firstOpensAt
+passed-over h p [] ys r l s n = ap (λ (q : ℕ). candidatesFrom (good h) q (ys ++ r)) (omega arith)
+passed-over h p (x ∷ xs) ys r l s n =
+    let d = no-opening x (xs ++ ys) l in
+    let o : opens (x ∷ (xs ++ (ys ++ r))) ≡ false = ap (λ (zs : List ℕ). opens (x ∷ zs)) (sym (append-assoc xs ys r)) ∙ s x (xs ++ ys) ∙ d .0 in
+    let q : eqb p (firstCountPlace h) ≡ false = ne-eqb p (firstCountPlace h) (λ w. n 0 (omega arith) (omega arith)) in
+    rw (q, o)
+    (passed-over h (suc p) xs ys r (d .1) s (λ k b w. n (suc k) (omega arith) (omega arith))
+    ∙ ap (λ (k : ℕ). candidatesFrom (good h) k (ys ++ r)) (omega arith))
+
+candidates-nil : (h : Judged ℕ) (p : ℕ) → candidatesFrom h p [] ≡ []
+unfolding candidatesFrom
+candidates-nil h p = refl
+
+-- A count that opens and passes is a candidate.
+candidate-here : (h : Judged ℕ) (p z : ℕ) (zs : List ℕ) (first : Bool) → firstOpensAt h p (z ∷ zs) ≡ first → (first || opens (z ∷ zs)) ≡ true → countPasses (candidateAt first p (z ∷ zs)) ≡ true
+    → candidatesFrom h p (z ∷ zs) ≡ candidateAt first p (z ∷ zs) ∷ candidatesFrom h (suc p) zs
+unfolding candidatesFrom standsAt
+candidate-here h p z zs first e o q = rw (e, o, q)
+
+-- The candidate of the span g in position i.
+abbrev candidateIn : ℕ → ℕ → Bool → List ℕ → Candidate
+candidateIn i p last g = record { place = p; first = isFirst i; last = last; rest = drop (openingLength (isFirst i)) g }
+
+candidate-agrees : (h : Home) (i : ℕ) (x : Settled) (p : ℕ) (g : List ℕ) (gs : List (List ℕ)) (s : Sector) → ReadAs h i x (none gs) g s → Shape i (g ∷ gs) → cleanSpans i (g ∷ gs) ≡ true
+    → candidateAt (isFirst i) p (joined (g ∷ gs)) ≡ candidateIn i p (none gs) g
+unfolding candidateAt
+candidate-agrees h i x p g gs s v t c =
+    let a = span-agrees i g gs t c (omega (arith, span-least h i x (none gs) g s v)) in
+    rw (a .1, a .2)
+
+-- Inside a span nothing opens behind its first cell.
+span-tail : (i x : ℕ) (xs : List ℕ) (gs : List (List ℕ)) → Shape i ((x ∷ xs) ∷ gs) → laterSpans xs ≡ []
+unfolding laterSpans
+span-tail zero x xs gs s = no-opening x xs (s .0) .1
+span-tail (suc i) x xs gs s = let z : ((x ∷ beforeOpening xs) ∷ laterSpans xs) ≡ (x ∷ xs) ∷ [] = rw (s .0 .0) at (s .0 .1) in cc
+
+-- The spans behind the first have the shape of later ones.
+pub shape-rest : (i : ℕ) (g : List ℕ) (gs : List (List ℕ)) → Shape i (g ∷ gs) → Shape (suc i) gs
+shape-rest zero g gs s = s .1
+shape-rest (suc i) g gs s = s .1
+
+-- The count of a span in position i opens.
+span-opens : (i : ℕ) (g : List ℕ) (gs : List (List ℕ)) → Shape i (g ∷ gs) → (isFirst i || opens (joined (g ∷ gs))) ≡ true
+span-opens zero g gs s = refl
+span-opens (suc i) g gs s = opens-joined i g gs s
+
+-- The place p is sector 0's in position 0, and behind it in a later position.
+abbrev pub AtPosition : ℕ → ℕ → ℕ → Type 0
+AtPosition zero h p = p ≡ firstCountPlace h
+AtPosition (suc i) h p = firstCountPlace h < p
+
+position-next : (i h p n : ℕ) → AtPosition i h p → 0 < n → AtPosition (suc i) h (p + n)
+position-next zero h p n a l = omega arith
+position-next (suc i) h p n a l = omega arith
+
+span-first : (m : Home) (i : ℕ) (x : Settled) (h p : ℕ) (g : List ℕ) (gs : List (List ℕ)) (s : Sector) → ReadAs m i x (none gs) g s → AtPosition i h p → firstOpensAt (good h) p (joined (g ∷ gs)) ≡ isFirst i
+unfolding firstOpensAt
+span-first m zero x h p g gs s v a =
+    let l : 6 ≤ length g = omega (arith, span-least m 0 x (none gs) g s v) in
+    rw (eq-eqb p (firstCountPlace h) a) (starts-with-append plainOpening g (joined gs) l ∙ v .opened refl)
+span-first m (suc i) x h p g gs s v a = rw (ne-eqb p (firstCountPlace h) (λ q. omega arith))
+
+position-past : (i h p k : ℕ) → AtPosition i h p → suc p + k ≡ firstCountPlace h → ⊥
+position-past zero h p k a q = omega arith
+position-past (suc i) h p k a q = omega arith
+
+read-long : (m : Home) (i : ℕ) (x : Settled) (last : Bool) (g : List ℕ) (s : Sector) → ReadAs m i x last g s → 43 ≤ length g
+read-long m i x true g s v = omega (arith, span-least m i x true g s v)
+read-long m i x false g s v = omega (arith, span-least m i x false g s v)
+
+-- The sector in position 0 is read as sector 0, and no other.
+pub read-first : (m : Home) (i : ℕ) (x : Settled) (last : Bool) (g : List ℕ) (s : Sector) → ReadAs m i x last g s → s .first ≡ isFirst i
+unfolding sectorIn
+read-first m i x last g s v = ap (λ (k : Sector). k .first) (v .sector-is)
+
+-- There is no sector exactly where there is no span.
+pub none-placed : (m : Home) (i : ℕ) (x : Settled) (p : ℕ) (gs : List (List ℕ)) (ss : List Sector) → Reads m i x p gs ss → none (placedFrom p gs ss) ≡ none gs
+unfolding placedFrom
+none-placed m i x p [] [] e = refl
+none-placed m i x p [] (s ∷ ss) e = absurd e
+none-placed m i x p (g ∷ gs) [] e = absurd e
+none-placed m i x p (g ∷ gs) (s ∷ ss) e = refl
+
+-- At the front of a span stands its candidate, and the next one not before the next span.
+candidates-span : (m : Home) (i : ℕ) (x : Settled) (h p z : ℕ) (zs : List ℕ) (gs : List (List ℕ)) (s : Sector) → ReadAs m i x (none gs) (z ∷ zs) s
+    → Shape i ((z ∷ zs) ∷ gs) → cleanSpans i ((z ∷ zs) ∷ gs) ≡ true → AtPosition i h p
+    → candidatesFrom (good h) p (z ∷ (zs ++ joined gs)) ≡ candidateIn i p (none gs) (z ∷ zs) ∷ candidatesFrom (good h) (p + length (z ∷ zs)) (joined gs)
+unfolding countPasses
+candidates-span m i x h p z zs gs s v t c a =
+    let d : candidateAt (isFirst i) p (z ∷ (zs ++ joined gs)) ≡ candidateIn i p (none gs) (z ∷ zs) = candidate-agrees m i x p (z ∷ zs) gs s v t c in
+    let q : countPasses (candidateAt (isFirst i) p (z ∷ (zs ++ joined gs))) ≡ true = rw d (and-make (v .count-fits) (v .count-closed)) in
+    let w = passed-over h (suc p) zs [] (joined gs) (ap laterSpans (append-nil zs) ∙ span-tail i z zs gs t) (joined-seam i gs (shape-rest i (z ∷ zs) gs t)) (λ k b e. position-past i h p k a e) in
+    candidate-here (good h) p z (zs ++ joined gs) (isFirst i) (span-first m i x h p (z ∷ zs) gs s v a) (span-opens i (z ∷ zs) gs t) q
+    ∙ ap₂ (λ (y : Candidate) (ys : List Candidate). y ∷ ys) d (w ∙ ap (λ (k : ℕ). candidatesFrom (good h) k (joined gs)) (omega arith))
+
+-- The spans of sectors, cut as they are and clean, have those sectors as candidates.
+pub candidates-reads : (m : Home) (i : ℕ) (x : Settled) (h p : ℕ) (gs : List (List ℕ)) (ss : List Sector) → Reads m i x p gs ss → Shape i gs → cleanSpans i gs ≡ true → AtPosition i h p
+    → candidatesFrom (good h) p (joined gs) ≡ candidatesOf (placedFrom p gs ss)
+unfolding candidatesOf placedFrom cleanSpans
+candidates-reads m i x h p [] [] e t c a = candidates-nil (good h) p
+candidates-reads m i x h p [] (s ∷ ss) e t c a = absurd e
+candidates-reads m i x h p (g ∷ gs) [] e t c a = absurd e
+candidates-reads m i x h p ([] ∷ gs) (s ∷ ss) e t c a = absurd (let l = read-long m i x (none gs) [] s (read-inv m i x p (none gs) [] s (e .0)) in omega arith)
+candidates-reads m i x h p ((z ∷ zs) ∷ gs) (s ∷ ss) e t c a =
+    let v = read-inv m i x p (none gs) (z ∷ zs) s (e .0) in
+    let k = and-both (cleanSpan i (z ∷ zs)) (cleanSpans (suc i) gs) c in
+    rw (none-placed m (suc i) (settle x s) (p + suc (length zs)) gs ss (e .1), read-first m i x (none gs) (z ∷ zs) s v)
+    (candidates-span m i x h p z zs gs s v t c a
+    ∙ ap (λ (ys : List Candidate). candidateIn i p (none gs) (z ∷ zs) ∷ ys)
+    (candidates-reads m (suc i) (settle x s) h (p + suc (length zs)) gs ss (e .1) (shape-rest i (z ∷ zs) gs t) (k .1) (position-next i h p (suc (length zs)) a (omega arith))))

@@ -1,0 +1,9 @@
+-- One sector and its span: what is read of it, and that what is written reads back. The groups behind look at no byte of a count or block.
+pub mod Sizes
+pub mod ReadSector
+pub mod WrittenRest
+pub mod Standing
+pub mod ReadBack
+pub mod ReadsAs
+pub mod ReadPrefix
+pub mod CountRight

@@ -1,0 +1,149 @@
+-- What a successful reading of a span tells: that every test of it holds, how long the span is, and how long the key and the data are.
+use mathlib.Core.Path.{_≡_, refl, sym, ap, _∙_}
+use Prim.Native.Nat.{ℕ, zero, suc, _+_, _≤_}
+use mathlib.Core.Bool.{Bool, true, false}
+use mathlib.Core.List.{List}
+use lib.ListN.{length, drop, length-take, length-drop}
+use native.Mathlib.Omega.{arith}
+use borrow.Author.Tests.{leb-true}
+use Rattle.base.specs.Pick.{pick}
+use Rattle.format.specs.Answer.{firstCountMissing, countCheckWrong, countFieldsWrong, spanTooShort, keyWrong, dataWrong}
+use Rattle.format.specs.Judged.{good}
+use Rattle.format.specs.Opening.{startsWith, plainOpening}
+use Rattle.format.specs.Home.{Home}
+use Rattle.format.specs.Count.{Settled, keyLength, dataLength, countFits, countClosed, countFieldsRight}
+use Rattle.format.specs.Block.{keyOffset, keySize, dataSize, dataOffset, blockEnd, leastGap, blocksFit, keyRight, dataRight, keyInfo, dataInfo, blockInfo}
+use Rattle.format.specs.Sector.{Sector, openingLength, isFirst, sectorIn, judgeCount, readBlocks, judgeSector, readSpan}
+use Rattle.format.proofs.Base.Judged.{good-inj, then-good, require-good, require-holds}
+use Rattle.format.proofs.Sector.Sizes.{key-size-least, data-size-least, gap-least, rest-least}
+
+-- What follows the count's opening in the span g of position i.
+abbrev pub behindOpening : ℕ → List ℕ → List ℕ
+behindOpening i g = drop (openingLength (isFirst i)) g
+
+-- The span g in position i passes every test of reading, and shows the sector s.
+pub record ReadAs (h : Home) (i : ℕ) (x : Settled) (last : Bool) (g : List ℕ) (s : Sector) : Type 0 where
+  pub opened : i ≡ 0 → startsWith plainOpening g ≡ true
+  pub count-fits : countFits (behindOpening i g) ≡ true
+  pub count-closed : countClosed (behindOpening i g) ≡ true
+  pub fields-right : countFieldsRight h i x (behindOpening i g) ≡ true
+  pub blocks-fit : blocksFit last (behindOpening i g) ≡ true
+  pub key-right : keyRight (behindOpening i g) ≡ true
+  pub data-right : dataRight (behindOpening i g) ≡ true
+  pub sector-is : s ≡ sectorIn (isFirst i) (behindOpening i g)
+
+count-inv : (h : Home) (i : ℕ) (x : Settled) (p : ℕ) (r : List ℕ) (u : Unit {0}) → judgeCount h i x p r ≡ good u
+    → (countFits r ≡ true) × ((countClosed r ≡ true) × (countFieldsRight h i x r ≡ true))
+unfolding judgeCount
+count-inv h i x p r u e =
+    let a = require-good (countFits r) (spanTooShort p) _ u e in
+    let b = require-good (countClosed r) (countCheckWrong p) _ u (a .1) in
+    let c = require-good (countFieldsRight h i x r) (countFieldsWrong p) _ u (b .1) in
+    (a .0, (b .0, c .0))
+
+count-make : (h : Home) (i : ℕ) (x : Settled) (p : ℕ) (r : List ℕ) → countFits r ≡ true → countClosed r ≡ true → countFieldsRight h i x r ≡ true
+    → judgeCount h i x p r ≡ good tt
+unfolding judgeCount
+count-make h i x p r a b c = rw (a, b, c)
+
+blocks-inv : (first : Bool) (p : ℕ) (last : Bool) (r : List ℕ) (s : Sector) → readBlocks first p last r ≡ good s
+    → (blocksFit last r ≡ true) × ((keyRight r ≡ true) × ((dataRight r ≡ true) × (s ≡ sectorIn first r)))
+unfolding readBlocks
+blocks-inv first p last r s e =
+    let a = require-good (blocksFit last r) (spanTooShort p) _ s e in
+    let b = require-good (keyRight r) (keyWrong (p + openingLength first + keyOffset)) _ s (a .1) in
+    let c = require-good (dataRight r) (dataWrong (p + openingLength first + dataOffset r)) _ s (b .1) in
+    (a .0, (b .0, (c .0, sym (good-inj (sectorIn first r) s (c .1)))))
+
+blocks-make : (first : Bool) (p : ℕ) (last : Bool) (r : List ℕ) (s : Sector) → blocksFit last r ≡ true → keyRight r ≡ true → dataRight r ≡ true → s ≡ sectorIn first r
+    → readBlocks first p last r ≡ good s
+unfolding readBlocks
+blocks-make first p last r s a b c e = rw (a, b, c, e)
+
+-- A reading that gives a sector has passed every test.
+pub read-inv : (h : Home) (i : ℕ) (x : Settled) (p : ℕ) (last : Bool) (g : List ℕ) (s : Sector) → readSpan h i x p last g ≡ good s → ReadAs h i x last g s
+unfolding readSpan judgeSector
+read-inv h zero x p last g s e =
+    let o = require-good (startsWith plainOpening g) (firstCountMissing p) _ s e in
+    let t = then-good (judgeCount h 0 x p (drop 6 g)) _ s (o .1) in
+    let c = count-inv h 0 x p (drop 6 g) (t .0) (t .1) in
+    let b = blocks-inv true p last (drop 6 g) s (t .2) in
+    record {
+      opened = λ _. o .0;
+      count-fits = c .0;
+      count-closed = c .1 .0;
+      fields-right = c .1 .1;
+      blocks-fit = b .0;
+      key-right = b .1 .0;
+      data-right = b .1 .1 .0;
+      sector-is = b .1 .1 .1;
+    }
+read-inv h (suc i) x p last g s e =
+    let t = then-good (judgeCount h (suc i) x p (drop 8 g)) _ s e in
+    let c = count-inv h (suc i) x p (drop 8 g) (t .0) (t .1) in
+    let b = blocks-inv false p last (drop 8 g) s (t .2) in
+    record {
+      opened = λ q. absurd (omega arith);
+      count-fits = c .0;
+      count-closed = c .1 .0;
+      fields-right = c .1 .1;
+      blocks-fit = b .0;
+      key-right = b .1 .0;
+      data-right = b .1 .1 .0;
+      sector-is = b .1 .1 .1;
+    }
+
+-- A span that passes every test is read, at any place.
+pub read-make : (h : Home) (i : ℕ) (x : Settled) (p : ℕ) (last : Bool) (g : List ℕ) (s : Sector) → ReadAs h i x last g s → readSpan h i x p last g ≡ good s
+unfolding readSpan judgeSector
+read-make h zero x p last g s v =
+    require-holds (startsWith plainOpening g) (firstCountMissing p) _ (good s) (v .opened refl)
+    (rw (count-make h 0 x p (drop 6 g) (v .count-fits) (v .count-closed) (v .fields-right))
+    (blocks-make true p last (drop 6 g) s (v .blocks-fit) (v .key-right) (v .data-right) (v .sector-is)))
+read-make h (suc i) x p last g s v =
+    rw (count-make h (suc i) x p (drop 8 g) (v .count-fits) (v .count-closed) (v .fields-right))
+    (blocks-make false p last (drop 8 g) s (v .blocks-fit) (v .key-right) (v .data-right) (v .sector-is))
+
+-- What reading tells of lengths: the blocks and the least gap lie in the span, and the key and the data are as long as the count says.
+pub record Lengths (i : ℕ) (last : Bool) (g : List ℕ) (s : Sector) : Type 0 where
+  pub reaches : openingLength (isFirst i) + blockEnd (behindOpening i g) + leastGap last ≤ length g
+  pub key-length : length (s .keyBytes) ≡ keyLength (behindOpening i g)
+  pub data-length : length (s .dataBytes) ≡ dataLength (behindOpening i g)
+  pub ends : blockEnd (behindOpening i g) ≡ 23 + keySize (length (s .keyBytes)) + dataSize (length (s .dataBytes))
+
+fit-least : (last : Bool) (r : List ℕ) → blocksFit last r ≡ true → dataOffset r + dataSize (dataLength r) + leastGap last ≤ length r
+unfolding blocksFit blockEnd
+fit-least last r e = leb-true _ (length r) e
+
+-- The key of blocks that fit is as long as the count says.
+pub fit-key : (last : Bool) (r : List ℕ) → blocksFit last r ≡ true → length (keyInfo r) ≡ keyLength r
+unfolding keyInfo blockInfo dataOffset
+fit-key last r e =
+    simp (length-take, length-drop)
+    (omega (arith, fit-least last r e, key-size-least (keyLength r), data-size-least (dataLength r), gap-least last))
+
+-- So is their data.
+pub fit-data : (last : Bool) (r : List ℕ) → blocksFit last r ≡ true → length (dataInfo r) ≡ dataLength r
+unfolding dataInfo blockInfo
+fit-data last r e = simp (length-take, length-drop) (omega (arith, fit-least last r e, data-size-least (dataLength r)))
+
+-- The lengths of what is read.
+pub read-length : (h : Home) (i : ℕ) (x : Settled) (last : Bool) (g : List ℕ) (s : Sector) → ReadAs h i x last g s → Lengths i last g s
+unfolding blockEnd dataOffset sectorIn
+read-length h i x last g s v =
+    let r : List ℕ = behindOpening i g in
+    let k : length (s .keyBytes) ≡ keyLength r = ap (λ (z : Sector). length (z .keyBytes)) (v .sector-is) ∙ fit-key last r (v .blocks-fit) in
+    let d : length (s .dataBytes) ≡ dataLength r = ap (λ (z : Sector). length (z .dataBytes)) (v .sector-is) ∙ fit-data last r (v .blocks-fit) in
+    record {
+      reaches = omega (arith, fit-least last r (v .blocks-fit), length-drop (openingLength (isFirst i)) g);
+      key-length = k;
+      data-length = d;
+      ends = rw (k, d);
+    }
+
+-- A span that is read has at least 57 cells in position 0 and 59 later; at least 49 and 51 where it runs to index.
+pub span-least : (h : Home) (i : ℕ) (x : Settled) (last : Bool) (g : List ℕ) (s : Sector) → ReadAs h i x last g s
+    → openingLength (isFirst i) + pick last 43 51 ≤ length g
+span-least h i x last g s v =
+    let z = read-length h i x last g s v in
+    omega (arith, z .reaches, z .ends, data-size-least (length (s .dataBytes)), rest-least last)
