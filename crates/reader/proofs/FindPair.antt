@@ -108,7 +108,7 @@ module _ (h : Home) (c : List ℕ) (g : Home) (d : List ℕ) where
   -- It is not the one that the first names.
   pub agrees-other : condition (g .flag) ≡ 1 → sameAddress (g .address) (namedTrack h c) ≡ false → pairAgrees h c g d ≡ false
   unfolding pairAgrees
-  agrees-other e n = rw (n, and-right (eqb (condition (g .flag)) 1) refl)
+  agrees-other e n = rw n (and-right (eqb (condition (g .flag)) 1) refl)
 
   -- It is, and the first is the one that it names, or not.
   pub agrees-named : condition (g .flag) ≡ 1 → sameAddress (g .address) (namedTrack h c) ≡ true → pairAgrees h c g d ≡ sameAddress (h .address) (namedTrack g d)
