@@ -4,8 +4,7 @@ ghost use mathlib.Core.Bool.{true};
 ghost use Prim.Native.Nat.{_*_, _≤_};
 ghost use lib.ListN.{length};
 ghost use Rattle.format.specs.Answer.{asAnswer};
-ghost use Rattle.format.specs.Judged.{answerOf};
-ghost use Rattle.format.specs.Written.{trackAfter, marksAfter};
+ghost use Rattle.format.specs.Written.{after, leaves};
 ghost use Rattle.pattern.specs.Pattern.{dataIn, legalPattern, markIn};
 ghost use Rattle.bitcells.specs.Each.{eachPattern, judgeEach};
 ghost use Rattle.bitcells.specs.FromCells.{lentFrom, fromCells};
@@ -100,9 +99,7 @@ fn lent_from(n: usize, l: usize, k: usize) -> bool
 
 // From bit cells to a track and its marks: 1 and 17 leave every byte and mark as it was; 0 where both are written.
 pub fn from_cells(bit_cells: &[u8], track: &mut [u8], marks: &mut [u8]) -> format::Answer
-    ensures answer { λ r. ⌜ asAnswer r ≡ answerOf (fromCells (now («bit_cells» .entry)) (length (now (track .entry))) (length (now (marks .entry)))) ⌝ }
-    ensures bytes { λ _. ⌜ now (track .exit) ≡ trackAfter (fromCells (now («bit_cells» .entry)) (length (now (track .entry))) (length (now (marks .entry)))) (now (track .entry)) ⌝ }
-    ensures marks { λ _. ⌜ now (marks .exit) ≡ marksAfter (fromCells (now («bit_cells» .entry)) (length (now (track .entry))) (length (now (marks .entry)))) (now (marks .entry)) ⌝ }
+    ensures { λ r. ⌜ after (asAnswer r) (now (track .exit)) (now (marks .exit)) ≡ leaves (fromCells (now («bit_cells» .entry)) (length (now (track .entry))) (length (now (marks .entry)))) (now (track .entry)) (now (marks .entry)) ⌝ }
 {
     if !lent_from(bit_cells.len(), track.len(), marks.len()) {
         return format::lent_wrong();

@@ -5,7 +5,7 @@ use mathlib.Core.List.{List, [], _∷_, _++_}
 use lib.ListN.{length, replicate}
 use lib.Dec.{leb}
 use Rattle.base.specs.Pick.{pick}
-use Rattle.format.specs.Answer.{roomMissing}
+use Rattle.format.specs.Answer.{Answer, done, roomMissing}
 use Rattle.format.specs.Judged.{Judged, good, refused, then, require}
 use Rattle.format.specs.Lent.{bytesOf, marksOf}
 use Rattle.format.specs.Opening.{plainOpening, markedOpening, closing}
@@ -67,15 +67,20 @@ pub record Pair : Type 0 where
 unfoldable pub asPair : Judged (List ℕ) → Judged Pair
 asPair j = then j (λ c. good (record { track = bytesOf c; marks = marksOf c }))
 
--- What a call that writes a pair leaves in the track's buffer: the new bytes, or the old ones where it refuses.
-abbrev pub trackAfter : Judged Pair → List ℕ → List ℕ
-trackAfter (good q) old = q .track
-trackAfter (refused a) old = old
+-- What stands after a call that writes a pair: its answer, and what the lent track and marks hold.
+pub record After : Type 0 where
+  pub answer : Answer
+  pub track : List ℕ
+  pub marks : List ℕ
 
--- The same for the marks.
-abbrev pub marksAfter : Judged Pair → List ℕ → List ℕ
-marksAfter (good q) old = q .marks
-marksAfter (refused a) old = old
+-- These three.
+abbrev pub after : Answer → List ℕ → List ℕ → After
+after a t m = record { answer = a; track = t; marks = m }
+
+-- What a call leaves that gives j, where t and m stood before: the new pair, or where it refuses t and m as they were.
+abbrev pub leaves : Judged Pair → List ℕ → List ℕ → After
+leaves (good q) t m = after done (q .track) (q .marks)
+leaves (refused a) t m = after a t m
 
 -- What follows takes the rule for the gap after a block, by KL and DL.
 module _ (gap : ℕ → ℕ → ℕ) where

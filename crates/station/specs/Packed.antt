@@ -7,11 +7,26 @@ use Rattle.format.specs.Answer.{Answer, wantedWrong}
 use Rattle.format.specs.Judged.{Judged, good, refused}
 use Rattle.format.specs.Find.{Wanted, theKey, theData, Part}
 use Rattle.format.specs.Walk.{Visited}
+use Rattle.format.specs.Written.{After}
 use Rattle.format.specs.PairFind.{Paired, ofFirst, pairFind}
 
 -- An answer: bits 0 to 7 number, 16 to 31 place.
 unfoldable pub packedAnswer : Answer → ℕ
 packedAnswer a = a .number + a .place % 65536 * 65536
+
+-- What stands after a call that writes a pair: its packed answer, and what the lent track and marks hold.
+pub record PackedAfter : Type 0 where
+  pub result : ℕ
+  pub track : List ℕ
+  pub marks : List ℕ
+
+-- These three.
+abbrev pub packedAfter : ℕ → List ℕ → List ℕ → PackedAfter
+packedAfter r t m = record { result = r; track = t; marks = m }
+
+-- The same with the answer packed.
+abbrev pub packed : After → PackedAfter
+packed x = packedAfter (packedAnswer (x .answer)) (x .track) (x .marks)
 
 -- The start of a part in bits 32 to 47 and its size in bits 48 to 63.
 unfoldable pub packedBounds : Part → ℕ

@@ -2,18 +2,16 @@
 ghost use mathlib.Core.Path.{_≡_};
 ghost use lib.ListN.{length};
 ghost use Rattle.format.specs.Judged.{answerOf, valueOr};
-ghost use Rattle.format.specs.Written.{trackAfter, marksAfter};
+ghost use Rattle.format.specs.Written.{leaves};
 ghost use Rattle.bitcells.specs.FromCells.{fromCells};
 ghost use Rattle.bitcells.specs.ToCells.{toCells};
-ghost use Rattle.station.specs.Packed.{packedAnswer};
+ghost use Rattle.station.specs.Packed.{packedAnswer, packedAfter, packed};
 use crate::packed_answer;
 
 // From bit cells: writes the track and the marks; a refusal writes nothing.
 #[no_mangle]
 pub extern "C" fn iso3561_from_cells(bit_cells: &[u8], track: &mut [u8], marks: &mut [u8]) -> u64
-    ensures answer { λ r. ⌜ r ≡ packedAnswer (answerOf (fromCells (now («bit_cells» .entry)) (length (now (track .entry))) (length (now (marks .entry))))) ⌝ }
-    ensures bytes { λ _. ⌜ now (track .exit) ≡ trackAfter (fromCells (now («bit_cells» .entry)) (length (now (track .entry))) (length (now (marks .entry)))) (now (track .entry)) ⌝ }
-    ensures marks { λ _. ⌜ now (marks .exit) ≡ marksAfter (fromCells (now («bit_cells» .entry)) (length (now (track .entry))) (length (now (marks .entry)))) (now (marks .entry)) ⌝ }
+    ensures { λ r. ⌜ packedAfter r (now (track .exit)) (now (marks .exit)) ≡ packed (leaves (fromCells (now («bit_cells» .entry)) (length (now (track .entry))) (length (now (marks .entry)))) (now (track .entry)) (now (marks .entry))) ⌝ }
 {
     packed_answer(bitcells::from_cells(bit_cells, track, marks))
 }

@@ -1,13 +1,12 @@
 // The calls that write a track: Blank, Add and Correct.
 ghost use mathlib.Core.Path.{_≡_};
 ghost use lib.ListN.{length};
-ghost use Rattle.format.specs.Judged.{answerOf};
-ghost use Rattle.format.specs.Written.{gapOne, trackAfter, marksAfter};
+ghost use Rattle.format.specs.Written.{gapOne, leaves};
 ghost use Rattle.format.specs.Blank.{blank};
 ghost use Rattle.format.specs.Add.{add};
 ghost use Rattle.format.specs.Correct.{correct};
 ghost use Rattle.encode.specs.Room.{addressOf};
-ghost use Rattle.station.specs.Packed.{packedAnswer};
+ghost use Rattle.station.specs.Packed.{packedAfter, packed};
 use crate::packed_answer;
 
 // Blank: writes home and sector 0 in the lent pair; a refusal writes nothing.
@@ -24,9 +23,7 @@ pub extern "C" fn iso3561_blank(
     key: &[u8],
     body: &[u8],
 ) -> u64
-    ensures answer { λ r. ⌜ r ≡ packedAnswer (answerOf (blank (length (now (track .entry))) (length (now (marks .entry))) (addressOf cylinder head) flag (addressOf «partner_cylinder» «partner_head») sector (now (key .entry)) (now (body .entry)))) ⌝ }
-    ensures bytes { λ _. ⌜ now (track .exit) ≡ trackAfter (blank (length (now (track .entry))) (length (now (marks .entry))) (addressOf cylinder head) flag (addressOf «partner_cylinder» «partner_head») sector (now (key .entry)) (now (body .entry))) (now (track .entry)) ⌝ }
-    ensures marks { λ _. ⌜ now (marks .exit) ≡ marksAfter (blank (length (now (track .entry))) (length (now (marks .entry))) (addressOf cylinder head) flag (addressOf «partner_cylinder» «partner_head») sector (now (key .entry)) (now (body .entry))) (now (marks .entry)) ⌝ }
+    ensures { λ r. ⌜ packedAfter r (now (track .exit)) (now (marks .exit)) ≡ packed (leaves (blank (length (now (track .entry))) (length (now (marks .entry))) (addressOf cylinder head) flag (addressOf «partner_cylinder» «partner_head») sector (now (key .entry)) (now (body .entry))) (now (track .entry)) (now (marks .entry))) ⌝ }
 {
     packed_answer(writer::blank(
         track,
@@ -54,9 +51,7 @@ pub extern "C" fn iso3561_add(
     key: &[u8],
     body: &[u8],
 ) -> u64
-    ensures answer { λ r. ⌜ r ≡ packedAnswer (answerOf (add gapOne (now (track .entry)) (now (marks .entry)) (length (now («new_track» .entry))) (length (now («new_marks» .entry))) b7 sector (now (key .entry)) (now (body .entry)))) ⌝ }
-    ensures bytes { λ _. ⌜ now («new_track» .exit) ≡ trackAfter (add gapOne (now (track .entry)) (now (marks .entry)) (length (now («new_track» .entry))) (length (now («new_marks» .entry))) b7 sector (now (key .entry)) (now (body .entry))) (now («new_track» .entry)) ⌝ }
-    ensures marks { λ _. ⌜ now («new_marks» .exit) ≡ marksAfter (add gapOne (now (track .entry)) (now (marks .entry)) (length (now («new_track» .entry))) (length (now («new_marks» .entry))) b7 sector (now (key .entry)) (now (body .entry))) (now («new_marks» .entry)) ⌝ }
+    ensures { λ r. ⌜ packedAfter r (now («new_track» .exit)) (now («new_marks» .exit)) ≡ packed (leaves (add gapOne (now (track .entry)) (now (marks .entry)) (length (now («new_track» .entry))) (length (now («new_marks» .entry))) b7 sector (now (key .entry)) (now (body .entry))) (now («new_track» .entry)) (now («new_marks» .entry))) ⌝ }
 {
     packed_answer(writer::add(track, marks, new_track, new_marks, b7, sector, key, body))
 }
@@ -72,9 +67,7 @@ pub extern "C" fn iso3561_correct(
     key: &[u8],
     body: &[u8],
 ) -> u64
-    ensures answer { λ r. ⌜ r ≡ packedAnswer (answerOf (correct gapOne (now (track .entry)) (now (marks .entry)) (length (now («new_track» .entry))) (length (now («new_marks» .entry))) sector (now (key .entry)) (now (body .entry)))) ⌝ }
-    ensures bytes { λ _. ⌜ now («new_track» .exit) ≡ trackAfter (correct gapOne (now (track .entry)) (now (marks .entry)) (length (now («new_track» .entry))) (length (now («new_marks» .entry))) sector (now (key .entry)) (now (body .entry))) (now («new_track» .entry)) ⌝ }
-    ensures marks { λ _. ⌜ now («new_marks» .exit) ≡ marksAfter (correct gapOne (now (track .entry)) (now (marks .entry)) (length (now («new_track» .entry))) (length (now («new_marks» .entry))) sector (now (key .entry)) (now (body .entry))) (now («new_marks» .entry)) ⌝ }
+    ensures { λ r. ⌜ packedAfter r (now («new_track» .exit)) (now («new_marks» .exit)) ≡ packed (leaves (correct gapOne (now (track .entry)) (now (marks .entry)) (length (now («new_track» .entry))) (length (now («new_marks» .entry))) sector (now (key .entry)) (now (body .entry))) (now («new_track» .entry)) (now («new_marks» .entry))) ⌝ }
 {
     packed_answer(writer::correct(track, marks, new_track, new_marks, sector, key, body))
 }

@@ -1,5 +1,5 @@
 -- What the judgement of the room tells, and an outcome under another name.
-use mathlib.Core.Path.{_≡_, sym, ap, _∙_, subst}
+use mathlib.Core.Path.{_≡_, sym, ap, _∙_}
 use Prim.Native.Nat.{ℕ, _+_, _≤_, _<_}
 use native.Mathlib.Omega.{arith}
 use mathlib.Core.Bool.{Bool, true}
@@ -9,9 +9,9 @@ use borrow.Author.Tests.{leb-true, leb-false}
 use Rattle.base.specs.Pick.{pick}
 use Rattle.format.specs.declared.Answer.{Answer as AnswerCode}
 use Rattle.format.specs.Answer.{Answer, asAnswer, done, roomMissing}
-use Rattle.format.specs.Judged.{Judged, answerOf}
+use Rattle.format.specs.Judged.{Judged}
 use Rattle.format.specs.Block.{leastGap}
-use Rattle.format.specs.Written.{Pair, trackAfter, marksAfter}
+use Rattle.format.specs.Written.{Pair, after, leaves}
 use Rattle.base.proofs.Tests.{cases}
 
 -- What the judgement of the room tells, whose answer is r.
@@ -32,7 +32,6 @@ module _ (r : AnswerCode) (end l : ℕ) (e : asAnswer r ≡ pick (leb (end + lea
       (λ b. absurd (z (ap (λ (a : Answer). a .number) (e ∙ ap (λ (t : Bool). pick t done roomMissing) b))))
       (λ b. (leb-false (end + 13) l b, e ∙ ap (λ (t : Bool). pick t done roomMissing) b))
 
--- What holds of a call's outcome under one name holds under another.
-pub after-same : (j k : Judged Pair) (r : Answer) (t m t' m' : List ℕ) → k ≡ j → (r ≡ answerOf j) × ((t' ≡ trackAfter j t) × (m' ≡ marksAfter j m))
-    → (r ≡ answerOf k) × ((t' ≡ trackAfter k t) × (m' ≡ marksAfter k m))
-after-same j k r t m t' m' e h = subst (λ (z : Judged Pair). (r ≡ answerOf z) × ((t' ≡ trackAfter z t) × (m' ≡ marksAfter z m))) (sym e) h
+-- What a call leaves by its outcome under one name it leaves under another.
+pub after-same : (j k : Judged Pair) (r : Answer) (t m t' m' : List ℕ) → k ≡ j → after r t' m' ≡ leaves j t m → after r t' m' ≡ leaves k t m
+after-same j k r t m t' m' e h = h ∙ ap (λ (z : Judged Pair). leaves z t m) (sym e)

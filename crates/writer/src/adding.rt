@@ -6,10 +6,9 @@ ghost use Prim.Native.Nat.{suc, _+_, _-_, _≤_, _<_};
 ghost use lib.ListN.{length, take, replicate};
 ghost use lib.Dec.{eqb};
 ghost use Rattle.format.specs.Answer.{asAnswer};
-ghost use Rattle.format.specs.Judged.{answerOf};
 ghost use Rattle.format.specs.Lent.{cells, bytesOf, marksOf};
 ghost use Rattle.format.specs.Accept.{Placed, lastOf};
-ghost use Rattle.format.specs.Written.{gapOne, asPair, sectorSize, trackAfter, marksAfter};
+ghost use Rattle.format.specs.Written.{gapOne, asPair, sectorSize, after, leaves};
 ghost use Rattle.format.specs.Sector.{contentRight};
 ghost use Rattle.format.specs.Add.{addedFlag, addCells, add};
 ghost use Rattle.encode.specs.Room.{sectorFrom};
@@ -97,9 +96,7 @@ fn add_behind(
     requires { ⌜ Addable (now track) (now marks) start f s ⌝ }
     requires { ⌜ (b7 ≤ 1) × (contentRight (now key) (now body) ≡ true) ⌝ }
     requires { ⌜ (length (now out) ≡ length (now track)) × (length (now «out_marks») ≡ length (now track)) ⌝ }
-    ensures answer { λ r. ⌜ asAnswer r ≡ answerOf (asPair (addCells gapOne (cells (now (track .entry)) (now (marks .entry))) b7 s (now (key .entry)) (now (body .entry)))) ⌝ }
-    ensures bytes { λ _. ⌜ now (out .exit) ≡ trackAfter (asPair (addCells gapOne (cells (now (track .entry)) (now (marks .entry))) b7 s (now (key .entry)) (now (body .entry)))) (now (out .entry)) ⌝ }
-    ensures marks { λ _. ⌜ now («out_marks» .exit) ≡ marksAfter (asPair (addCells gapOne (cells (now (track .entry)) (now (marks .entry))) b7 s (now (key .entry)) (now (body .entry)))) (now («out_marks» .entry)) ⌝ }
+    ensures { λ r. ⌜ after (asAnswer r) (now (out .exit)) (now («out_marks» .exit)) ≡ leaves (asPair (addCells gapOne (cells (now (track .entry)) (now (marks .entry))) b7 s (now (key .entry)) (now (body .entry)))) (now (out .entry)) (now («out_marks» .entry)) ⌝ }
 {
     let last = last_of(track, marks, start);
     let p = last.place;
@@ -132,9 +129,7 @@ fn add_on(
 ) -> format::Answer
     requires { ⌜ ReadableFlag (now track) (now marks) start f ⌝ }
     requires { ⌜ (length (now out) ≡ length (now track)) × (length (now «out_marks») ≡ length (now track)) ⌝ }
-    ensures answer { λ r. ⌜ asAnswer r ≡ answerOf (asPair (addCells gapOne (cells (now (track .entry)) (now (marks .entry))) b7 s (now (key .entry)) (now (body .entry)))) ⌝ }
-    ensures bytes { λ _. ⌜ now (out .exit) ≡ trackAfter (asPair (addCells gapOne (cells (now (track .entry)) (now (marks .entry))) b7 s (now (key .entry)) (now (body .entry)))) (now (out .entry)) ⌝ }
-    ensures marks { λ _. ⌜ now («out_marks» .exit) ≡ marksAfter (asPair (addCells gapOne (cells (now (track .entry)) (now (marks .entry))) b7 s (now (key .entry)) (now (body .entry)))) (now («out_marks» .entry)) ⌝ }
+    ensures { λ r. ⌜ after (asAnswer r) (now (out .exit)) (now («out_marks» .exit)) ≡ leaves (asPair (addCells gapOne (cells (now (track .entry)) (now (marks .entry))) b7 s (now (key .entry)) (now (body .entry)))) (now (out .entry)) (now («out_marks» .entry)) ⌝ }
 {
     if 1 < b7 {
         return format::wanted_wrong();
@@ -160,9 +155,7 @@ pub fn add(
     key: &[u8],
     body: &[u8],
 ) -> format::Answer
-    ensures answer { λ r. ⌜ asAnswer r ≡ answerOf (add gapOne (now (track .entry)) (now (marks .entry)) (length (now («new_track» .entry))) (length (now («new_marks» .entry))) b7 s (now (key .entry)) (now (body .entry))) ⌝ }
-    ensures bytes { λ _. ⌜ now («new_track» .exit) ≡ trackAfter (add gapOne (now (track .entry)) (now (marks .entry)) (length (now («new_track» .entry))) (length (now («new_marks» .entry))) b7 s (now (key .entry)) (now (body .entry))) (now («new_track» .entry)) ⌝ }
-    ensures marks { λ _. ⌜ now («new_marks» .exit) ≡ marksAfter (add gapOne (now (track .entry)) (now (marks .entry)) (length (now («new_track» .entry))) (length (now («new_marks» .entry))) b7 s (now (key .entry)) (now (body .entry))) (now («new_marks» .entry)) ⌝ }
+    ensures { λ r. ⌜ after (asAnswer r) (now («new_track» .exit)) (now («new_marks» .exit)) ≡ leaves (add gapOne (now (track .entry)) (now (marks .entry)) (length (now («new_track» .entry))) (length (now («new_marks» .entry))) b7 s (now (key .entry)) (now (body .entry))) (now («new_track» .entry)) (now («new_marks» .entry)) ⌝ }
 {
     if !both_lent(track, marks, new_track.len(), new_marks.len()) {
         return format::lent_wrong();

@@ -5,11 +5,10 @@ ghost use mathlib.Core.List.{_++_};
 ghost use Prim.Native.Nat.{_+_, _-_, _≤_};
 ghost use lib.ListN.{length};
 ghost use Rattle.format.specs.Answer.{asAnswer};
-ghost use Rattle.format.specs.Judged.{answerOf};
 ghost use Rattle.format.specs.Lent.{bytesOf, marksOf};
 ghost use Rattle.format.specs.Blank.{namedBy, blankRight, writtenHead, blankSector, blank};
 ghost use Rattle.sector.specs.As.{asAddress};
-ghost use Rattle.format.specs.Written.{sectorSize, trackAfter, marksAfter};
+ghost use Rattle.format.specs.Written.{sectorSize, after, leaves};
 ghost use Rattle.encode.specs.Room.{addressOf};
 ghost use Rattle.writer.specs.Filled.{filledSpan};
 use crate::content_right;
@@ -79,9 +78,7 @@ pub fn blank(
     key: &[u8],
     body: &[u8],
 ) -> format::Answer
-    ensures answer { λ r. ⌜ asAnswer r ≡ answerOf (blank (length (now (track .entry))) (length (now (marks .entry))) (addressOf cylinder head) flag (addressOf «partner_cylinder» «partner_head») s (now (key .entry)) (now (body .entry))) ⌝ }
-    ensures bytes { λ _. ⌜ now (track .exit) ≡ trackAfter (blank (length (now (track .entry))) (length (now (marks .entry))) (addressOf cylinder head) flag (addressOf «partner_cylinder» «partner_head») s (now (key .entry)) (now (body .entry))) (now (track .entry)) ⌝ }
-    ensures marks { λ _. ⌜ now (marks .exit) ≡ marksAfter (blank (length (now (track .entry))) (length (now (marks .entry))) (addressOf cylinder head) flag (addressOf «partner_cylinder» «partner_head») s (now (key .entry)) (now (body .entry))) (now (marks .entry)) ⌝ }
+    ensures { λ r. ⌜ after (asAnswer r) (now (track .exit)) (now (marks .exit)) ≡ leaves (blank (length (now (track .entry))) (length (now (marks .entry))) (addressOf cylinder head) flag (addressOf «partner_cylinder» «partner_head») s (now (key .entry)) (now (body .entry))) (now (track .entry)) (now (marks .entry)) ⌝ }
 {
     if !search::lent_for_writing(track.len(), marks.len()) {
         return format::lent_wrong();

@@ -5,10 +5,9 @@ ghost use mathlib.Core.List.{List, _∷_, _++_};
 ghost use Prim.Native.Nat.{_+_, _-_, _≤_, _<_};
 ghost use lib.ListN.{length, take};
 ghost use Rattle.format.specs.Answer.{asAnswer};
-ghost use Rattle.format.specs.Judged.{answerOf};
 ghost use Rattle.format.specs.Lent.{cells, bytesOf, marksOf};
 ghost use Rattle.format.specs.Accept.{Placed};
-ghost use Rattle.format.specs.Written.{gapOne, asPair, trackAfter, marksAfter};
+ghost use Rattle.format.specs.Written.{gapOne, asPair, after, leaves};
 ghost use Rattle.format.specs.Correct.{correctCells, correct};
 ghost use Rattle.sectors.proofs.From.{SectorsFrom};
 ghost use Rattle.writer.specs.Remaining.{Readable, Remaining, RemainingRoom, RoomFor, laterCells, farthest, correctedEnd, correctedCells};
@@ -142,9 +141,7 @@ fn correct_on(
 ) -> format::Answer
     requires { ⌜ Readable (now track) (now marks) start ⌝ }
     requires { ⌜ (length (now out) ≡ length (now track)) × (length (now «out_marks») ≡ length (now track)) ⌝ }
-    ensures answer { λ r. ⌜ asAnswer r ≡ answerOf (asPair (correctCells gapOne (cells (now (track .entry)) (now (marks .entry))) s (now (key .entry)) (now (body .entry)))) ⌝ }
-    ensures bytes { λ _. ⌜ now (out .exit) ≡ trackAfter (asPair (correctCells gapOne (cells (now (track .entry)) (now (marks .entry))) s (now (key .entry)) (now (body .entry)))) (now (out .entry)) ⌝ }
-    ensures marks { λ _. ⌜ now («out_marks» .exit) ≡ marksAfter (asPair (correctCells gapOne (cells (now (track .entry)) (now (marks .entry))) s (now (key .entry)) (now (body .entry)))) (now («out_marks» .entry)) ⌝ }
+    ensures { λ r. ⌜ after (asAnswer r) (now (out .exit)) (now («out_marks» .exit)) ≡ leaves (asPair (correctCells gapOne (cells (now (track .entry)) (now (marks .entry))) s (now (key .entry)) (now (body .entry)))) (now (out .entry)) (now («out_marks» .entry)) ⌝ }
 {
     if !content_right(key, body) {
         return format::wanted_wrong();
@@ -172,9 +169,7 @@ pub fn correct(
     key: &[u8],
     body: &[u8],
 ) -> format::Answer
-    ensures answer { λ r. ⌜ asAnswer r ≡ answerOf (correct gapOne (now (track .entry)) (now (marks .entry)) (length (now («new_track» .entry))) (length (now («new_marks» .entry))) s (now (key .entry)) (now (body .entry))) ⌝ }
-    ensures bytes { λ _. ⌜ now («new_track» .exit) ≡ trackAfter (correct gapOne (now (track .entry)) (now (marks .entry)) (length (now («new_track» .entry))) (length (now («new_marks» .entry))) s (now (key .entry)) (now (body .entry))) (now («new_track» .entry)) ⌝ }
-    ensures marks { λ _. ⌜ now («new_marks» .exit) ≡ marksAfter (correct gapOne (now (track .entry)) (now (marks .entry)) (length (now («new_track» .entry))) (length (now («new_marks» .entry))) s (now (key .entry)) (now (body .entry))) (now («new_marks» .entry)) ⌝ }
+    ensures { λ r. ⌜ after (asAnswer r) (now («new_track» .exit)) (now («new_marks» .exit)) ≡ leaves (correct gapOne (now (track .entry)) (now (marks .entry)) (length (now («new_track» .entry))) (length (now («new_marks» .entry))) s (now (key .entry)) (now (body .entry))) (now («new_track» .entry)) (now («new_marks» .entry)) ⌝ }
 {
     if !both_lent(track, marks, new_track.len(), new_marks.len()) {
         return format::lent_wrong();

@@ -1,6 +1,5 @@
 -- `iso3561_blank` meets its contract: the answer of Blank, packed, and what it writes.
-use mathlib.Core.Path.{ap, _∙_}
-use Rattle.station.specs.Packed.{packedAnswer}
+use Rattle.station.proofs.Wrote.{packed-after}
 use borrow.Author.Needs.{needs}
 use Rattle.station.proofs.writing.iso3561_blank.Statement.{statement}
 use Rattle.station.proofs.writing.iso3561_blank.Tie as tie
@@ -18,9 +17,7 @@ same-length-2 : tie.Need-same-length-2
 same-length-2 c = search needs
 
 returns : tie.Need-returns
-returns c =
-    let w = c .before .before .before .before .before .blank .ensures in
-    (c .packed-answer .ensures .0 ∙ ap packedAnswer (w .0), (w .1 .0, w .1 .1))
+returns c = packed-after _ _ _ _ _ (c .packed-answer .ensures .0) (c .before .before .before .before .before .blank .ensures)
 
 pub iso3561-blank-spec : {M : Type 1} → statement M
 iso3561-blank-spec = tie.close (tie.spec blank-requires packed-answer-requires same-length same-length-2 returns)
