@@ -75,13 +75,10 @@ unstrayed q t m l e j =
 
 -- The track c behind the home h.
 module _ (h : Home) (c : List ℕ) where
-  marks-place : judgeMarks (firstCountEnd (h .place)) 0 0 c ≡ judgeMarks (h .place + 25 + 18) 0 0 c
-  marks-place = let e : h .place + 43 ≡ h .place + 25 + 18 = omega arith in ap (λ (k : ℕ). judgeMarks k 0 0 c) e
-
   -- A mark is stray.
   pub behind-stray : (a : Answer) → refused a ≡ judgeMarks (h .place + 25 + 18) 0 0 c → a ≡ answerOf (judgeBehind h c)
   unfolding judgeBehind
-  behind-stray a e = rw (marks-place ∙ sym e)
+  behind-stray a e = rw (sym e)
 
   module _ (e : good tt ≡ judgeMarks (h .place + 25 + 18) 0 0 c) (b : Answer)
       (r : b ≡ answerOf (readSpans h 0 unsettled (h .place + 25) (spans (drop (h .place + 25) c)))) where
@@ -89,7 +86,7 @@ module _ (h : Home) (c : List ℕ) where
     pub behind-refused : (b .number ≡ 0 → ⊥) → b ≡ answerOf (judgeBehind h c)
     unfolding judgeBehind
     behind-refused n =
-        rw (marks-place ∙ sym e)
+        rw (sym e)
         (r ∙ sym (refusal-stays (readSpans h 0 unsettled (h .place + 25) (spans (drop (h .place + 25) c))) _ (λ z. n (ap (λ (a : Answer). a .number) r ∙ z))))
 
     read-good : b .number ≡ 0 → (ss : List Sector) × (readSpans h 0 unsettled (h .place + 25) (spans (drop (h .place + 25) c)) ≡ good ss)
@@ -116,7 +113,7 @@ module _ (h : Home) (c : List ℕ) where
         let g = read-good z in
         let gs : List (List ℕ) = spans (drop (h .place + 25) c) in
         let n = numbers-placed h 0 unsettled (h .place + 25) gs (g .0) [] (read-reads h 0 unsettled (h .place + 25) gs (g .0) (g .1)) in
-        sym (rw (marks-place ∙ sym e, g .1) (answer-then (judgeNumbers [] (placedFrom (h .place + 25) gs (g .0))) (λ _. placedFrom (h .place + 25) gs (g .0)) ∙ ap answerOf n))
+        sym (rw (sym e, g .1) (answer-then (judgeNumbers [] (placedFrom (h .place + 25) gs (g .0))) (λ _. placedFrom (h .place + 25) gs (g .0)) ∙ ap answerOf n))
 
 -- No mark is stray where the answer is 0.
 marks-zero : (e : ℕ) (c : List ℕ) → answerOf (judgeMarks e 0 0 c) .number ≡ 0 → judgeMarks e 0 0 c ≡ good tt

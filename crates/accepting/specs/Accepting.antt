@@ -6,6 +6,7 @@ use mathlib.Core.List.{List, [], _∷_}
 use lib.ListN.{length, drop}
 use Rattle.format.specs.Answer.{asAnswer, sectorRepeated}
 use Rattle.format.specs.Judged.{Judged, good, refused, require}
+use Rattle.format.specs.Layout.{homeFirst, homeLast, firstCountLength}
 use Rattle.format.specs.Lent.{cells}
 use Rattle.format.specs.Home.{Home}
 use Rattle.format.specs.Count.{countNumber}
@@ -30,7 +31,7 @@ homeStandsAt p (Refused a) = Unit {0}
 
 -- A home that is right starts in its window, 23 to 37.
 abbrev pub homeInWindow : HomeJudged → Type 0
-homeInWindow (Right h) = (23 ≤ h .place) × (h .place ≤ 37)
+homeInWindow (Right h) = (homeFirst ≤ h .place) × (h .place ≤ homeLast)
 homeInWindow (Refused a) = Unit {0}
 
 -- What is left of a track from place p on: nothing, or it starts with a whole opening; and no mark of it is stray.
@@ -45,7 +46,7 @@ pub record NoStrayMark (p : ℕ) (t m : List ℕ) : Type 0 where
   pub lengths : length m ≡ length t
   pub within : length t ≤ 4002
   pub reach : p ≤ length t
-  pub judged : judgeMarks (p + 18) 0 0 (cells t m) ≡ good tt
+  pub judged : judgeMarks (p + firstCountLength) 0 0 (cells t m) ≡ good tt
 
 -- 13 by the spans gs alone, the first of which stands in position i and at place p; `seen` has the numbers passed.
 unfoldable pub numbersIn : List ℕ → ℕ → ℕ → List (List ℕ) → Judged (Unit {0})
@@ -61,5 +62,5 @@ judgedTrack (RefusedTrack a) = refused (asAnswer a)
 
 -- The home of an accepted track starts in its window, 23 to 37.
 abbrev pub trackInWindow : JudgedCode → Type 0
-trackInWindow (Accepted h) = (23 ≤ h .place) × (h .place ≤ 37)
+trackInWindow (Accepted h) = (homeFirst ≤ h .place) × (h .place ≤ homeLast)
 trackInWindow (RefusedTrack a) = Unit {0}

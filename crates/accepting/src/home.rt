@@ -4,6 +4,9 @@ ghost use Rattle.format.specs.Lent.{cells};
 ghost use Rattle.format.specs.Home.{homeOf, judgeHomeOf, judgeHome};
 ghost use Rattle.sector.specs.As.{asHome};
 ghost use Rattle.accepting.specs.Accepting.{judgedHome, homeStandsAt, homeInWindow};
+use format::layout::HOME;
+use format::layout::HOME_INFO;
+use format::layout::PLAIN;
 use sector::Home;
 
 // The home of a track, or the answer that refuses it.
@@ -30,7 +33,7 @@ fn judge_fields(p: usize, r: &[u8]) -> HomeJudged
     ensures { λ j. ⌜ judgedHome j ≡ judgeHomeOf p (now (r .entry)) ⌝ }
     ensures { λ j. ⌜ homeStandsAt p j ⌝ }
 {
-    if sector::closed_after(r, 5) {
+    if sector::closed_after(r, HOME_INFO) {
         let h = home_of(p, r);
         if sector::home_fields_right(h) {
             HomeJudged::Right(h)
@@ -50,8 +53,8 @@ pub fn judge_home(track: &[u8], marks: &[u8]) -> HomeJudged
     let found = search::find_home(track, marks);
     match found {
         search::Found::At(p) => {
-            let from = p + 6;
-            let to = p + 14;
+            let from = p + PLAIN;
+            let to = p + HOME;
             if search::cell_count(track, marks) < to {
                 return HomeJudged::Refused(format::home_check_wrong(p));
             }

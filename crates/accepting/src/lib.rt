@@ -14,6 +14,10 @@ ghost use Rattle.format.specs.Sector.{judgeSector};
 ghost use Rattle.format.specs.Accept.{readSpans, judgeBehind, accept};
 ghost use Rattle.sector.specs.As.{asAddress, asHome, asSettled};
 ghost use Rattle.accepting.specs.Accepting.{Rest, NoStrayMark, numbersIn, judgedTrack, trackInWindow};
+use format::layout::FIRST_COUNT;
+use format::layout::HOME_TO_COUNT;
+use format::layout::MARKED;
+use format::layout::PLAIN;
 use sector::Address;
 use sector::Home;
 use sector::Named;
@@ -44,9 +48,9 @@ fn judge_odd(track: &[u8], marks: &[u8], p: usize, h: Home, named: Address) -> f
     if track.len() == 0 {
         return format::done();
     }
-    let span = search::span_at(track, marks, 0, 8);
+    let span = search::span_at(track, marks, 0, MARKED);
     let n = span.length;
-    let a = judge_sector(h, 1, Named::Settled(named), p, span.last, &track[8..n]);
+    let a = judge_sector(h, 1, Named::Settled(named), p, span.last, &track[MARKED..n]);
     if a.number != 0 {
         return a;
     }
@@ -61,9 +65,9 @@ fn judge_even(track: &[u8], marks: &[u8], p: usize, h: Home, named: Address) -> 
     if track.len() == 0 {
         return format::done();
     }
-    let span = search::span_at(track, marks, 0, 8);
+    let span = search::span_at(track, marks, 0, MARKED);
     let n = span.length;
-    let a = judge_sector(h, 2, Named::Settled(named), p, span.last, &track[8..n]);
+    let a = judge_sector(h, 2, Named::Settled(named), p, span.last, &track[MARKED..n]);
     if a.number != 0 {
         return a;
     }
@@ -78,8 +82,8 @@ fn judge_sectors(track: &[u8], marks: &[u8], p: usize, h: Home) -> format::Answe
     if !search::opens_plain(track, marks, p) {
         return format::first_count_missing(p);
     }
-    let span = search::span_at(track, marks, p, 6);
-    let from = p + 6;
+    let span = search::span_at(track, marks, p, PLAIN);
+    let from = p + PLAIN;
     let to = p + span.length;
     let a = judge_sector(h, 0, Named::Unsettled, p, span.last, &track[from..to]);
     if a.number != 0 {
@@ -118,8 +122,8 @@ fn judge_behind(track: &[u8], marks: &[u8], h: Home) -> format::Answer
     requires { ⌜ h .place ≤ 37 ⌝ }
     ensures { λ a. ⌜ asAnswer a ≡ answerOf (judgeBehind (asHome h) (cells (now (track .entry)) (now (marks .entry)))) ⌝ }
 {
-    let p = h.place + 25;
-    let strayed = search::judge_marks(track, marks, p + 18);
+    let p = h.place + HOME_TO_COUNT;
+    let strayed = search::judge_marks(track, marks, p + FIRST_COUNT);
     match strayed {
         search::Strayed::Nowhere => {
             let a = judge_sectors(track, marks, p, h);

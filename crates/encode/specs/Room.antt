@@ -25,10 +25,6 @@ bothFit n l k = leb n l && leb n k
 unfoldable pub sectorFits : Sector → ℕ → ℕ → Bool
 sectorFits s l k = contentRight (s .keyBytes) (s .dataBytes) && bothFit (length (writtenSector s)) l k
 
--- Home with the gaps before and after it takes 55 bytes.
-abbrev pub headSize : ℕ
-headSize = 55
-
 -- The places from `from` up to `to` lie in both parts.
 abbrev pub gapFits : ℕ → ℕ → ℕ → ℕ → Bool
 gapFits from to l k = leb from to && bothFit to l k

@@ -3,6 +3,7 @@ ghost use mathlib.Core.Path.{_≡_};
 ghost use mathlib.Core.List.{_++_};
 ghost use Prim.Native.Nat.{_+_, _-_, _≤_};
 ghost use lib.ListN.{length, take, replicate};
+ghost use Rattle.format.specs.Layout.{headLength};
 ghost use Rattle.format.specs.Lent.{bytesOf, marksOf};
 ghost use Rattle.format.specs.Opening.{closing};
 ghost use Rattle.format.specs.Sector.{openingLength};
@@ -10,8 +11,21 @@ ghost use Rattle.format.specs.Block.{keySize, dataSize};
 ghost use Rattle.format.specs.Written.{gapOne, innerGap, writtenBlock, writtenKey, writtenData, countOpening, writtenSector, sectorSize};
 ghost use Rattle.format.specs.Blank.{writtenHead};
 ghost use Rattle.encode.specs.Laid.{laidOver, laidAt, laidIf, laidAtIf};
-ghost use Rattle.encode.specs.Room.{addressOf, sectorFrom, bothFit, sectorFits, headSize, gapFits};
+ghost use Rattle.encode.specs.Room.{addressOf, sectorFrom, bothFit, sectorFits, gapFits};
 ghost use Rattle.encode.specs.Bytes.{countBytes};
+use format::layout::BLOCK_FRAME;
+use format::layout::CLOSING_BYTE;
+use format::layout::COUNT_TO_BLOCK;
+use format::layout::EMPTY_BLOCK;
+use format::layout::GAP;
+use format::layout::HEAD;
+use format::layout::INDEX_GAP;
+use format::layout::KEY_FRAME;
+use format::layout::MARKED;
+use format::layout::MARKED_OPENING;
+use format::layout::MARKED_OPENING_MARKS;
+use format::layout::PLAIN;
+use format::layout::PLAIN_OPENING;
 
 // The gap after a data block by rule one.
 pub fn gap_one(kl: u8, dl: u16) -> usize
@@ -24,28 +38,32 @@ pub fn gap_one(kl: u8, dl: u16) -> usize
 fn opening_length(first: bool) -> usize
     ensures { λ r. ⌜ (r ≡ openingLength first) × (r ≤ 8) ⌝ }
 {
-    if first { 6 } else { 8 }
+    if first { PLAIN } else { MARKED }
 }
 
 // What a key of kl bytes takes, with its gap of 11.
 fn key_size(kl: u8) -> usize
     ensures { λ r. ⌜ (r ≡ keySize kl) × (r ≤ 275) ⌝ }
 {
-    if kl == 0 { 0 } else { kl as usize + 20 }
+    if kl == 0 { 0 } else { kl as usize + KEY_FRAME }
 }
 
 // What a data block of dl bytes takes.
 fn data_size(dl: u16) -> usize
     ensures { λ r. ⌜ (r ≡ dataSize dl) × (r ≤ 65544) ⌝ }
 {
-    if dl == 0 { 7 } else { dl as usize + 9 }
+    if dl == 0 {
+        EMPTY_BLOCK
+    } else {
+        dl as usize + BLOCK_FRAME
+    }
 }
 
 // What a sector with such lengths takes without the gap after it.
 pub fn sector_size(first: bool, kl: u8, dl: u16) -> usize
     ensures { λ r. ⌜ r ≡ sectorSize first kl dl ⌝ }
 {
-    opening_length(first) + 23 + key_size(kl) + data_size(dl)
+    opening_length(first) + COUNT_TO_BLOCK + key_size(kl) + data_size(dl)
 }
 
 // Writes n bytes b from place at on and gives the place behind them.
@@ -119,7 +137,7 @@ fn put_field(t: &mut [u8], at: usize, info: &[u8]) -> usize
 {
     let end = put_bytes(t, at, info);
     let check = crc::check_of(info);
-    let tail: [u8; 3] = [(check / 256) as u8, (check % 256) as u8, 0xCC];
+    let tail: [u8; 3] = [(check / 256) as u8, (check % 256) as u8, CLOSING_BYTE];
     put_bytes(t, end, &tail)
 }
 
@@ -139,8 +157,7 @@ fn put_block(t: &mut [u8], at: usize, info: &[u8]) -> usize
     ensures place { λ r. ⌜ r ≡ at + length (now (info .entry)) + 9 ⌝ }
     ensures bytes { λ _. ⌜ now (t .exit) ≡ laidAt at (writtenBlock (now (info .entry))) (now (t .entry)) ⌝ }
 {
-    let opening: [u8; 6] = [0, 0, 0, 0, 0xFF, 0x0E];
-    let p = put_bytes(t, at, &opening);
+    let p = put_bytes(t, at, &PLAIN_OPENING);
     put_field(t, p, info)
 }
 
@@ -164,8 +181,8 @@ fn put_data(t: &mut [u8], at: usize, body: &[u8]) -> usize
     ensures bytes { λ _. ⌜ now (t .exit) ≡ laidAt at (writtenData (now (body .entry))) (now (t .entry)) ⌝ }
 {
     if body.len() == 0 {
-        let empty: [u8; 7] = [0, 0, 0, 0, 0xFF, 0x0E, 0];
-        return put_bytes(t, at, &empty);
+        let p = put_bytes(t, at, &PLAIN_OPENING);
+        return put_run(t, p, 1, 0x00);
     }
     put_block(t, at, body)
 }
@@ -177,11 +194,9 @@ fn put_opening(t: &mut [u8], first: bool) -> usize
     ensures bytes { λ _. ⌜ now (t .exit) ≡ laidAt 0 (bytesOf (countOpening first)) (now (t .entry)) ⌝ }
 {
     if first {
-        let plain: [u8; 6] = [0, 0, 0, 0, 0xFF, 0x0E];
-        return put_bytes(t, 0, &plain);
+        return put_bytes(t, 0, &PLAIN_OPENING);
     }
-    let marked: [u8; 8] = [0, 0, 0, 0, 0xFF, 0xFF, 0xFF, 0x0E];
-    put_bytes(t, 0, &marked)
+    put_bytes(t, 0, &MARKED_OPENING)
 }
 
 // Writes the marks of a sector of n bytes over the front: only the second and third FF of a later count's opening are marked.
@@ -194,8 +209,7 @@ fn put_marks(m: &mut [u8], first: bool, n: usize)
         put_run(m, 0, n, 0);
         return;
     }
-    let opening: [u8; 8] = [0, 0, 0, 0, 0, 1, 1, 0];
-    let p = put_bytes(m, 0, &opening);
+    let p = put_bytes(m, 0, &MARKED_OPENING_MARKS);
     put_run(m, p, n - p, 0);
 }
 
@@ -291,10 +305,10 @@ pub fn write_sector(
 
 // Writes the bytes of home, with the gaps before and after it, over the front.
 fn put_head(t: &mut [u8], flag: u8, cylinder: u16, head: u16)
-    requires { ⌜ headSize ≤ length (now t) ⌝ }
+    requires { ⌜ headLength ≤ length (now t) ⌝ }
     ensures { λ _. ⌜ now (t .exit) ≡ laidAt 0 (writtenHead flag (addressOf cylinder head)) (now (t .entry)) ⌝ }
 {
-    let p = put_run(t, 0, 30, 0);
+    let p = put_run(t, 0, INDEX_GAP, 0);
     let info: [u8; 5] = [
         flag,
         (cylinder / 256) as u8,
@@ -303,22 +317,22 @@ fn put_head(t: &mut [u8], flag: u8, cylinder: u16, head: u16)
         (head % 256) as u8,
     ];
     let p = put_block(t, p, &info);
-    put_run(t, p, 11, 0);
+    put_run(t, p, GAP, 0);
 }
 
-// Writes home, with the gaps before and after it, over the front of both parts, where both have 55 bytes; else nothing is written.
+// Writes home, with the gaps before and after it, over the front of both parts, where both are long enough; else nothing is written.
 pub fn write_head(track: &mut [u8], marks: &mut [u8], flag: u8, cylinder: u16, head: u16) -> bool
-    ensures answer { λ r. ⌜ r ≡ bothFit headSize (length (now (track .entry))) (length (now (marks .entry))) ⌝ }
+    ensures answer { λ r. ⌜ r ≡ bothFit headLength (length (now (track .entry))) (length (now (marks .entry))) ⌝ }
     ensures bytes { λ r. ⌜ now (track .exit) ≡ laidIf r (bytesOf (writtenHead flag (addressOf cylinder head))) (now (track .entry)) ⌝ }
     ensures marks { λ r. ⌜ now (marks .exit) ≡ laidIf r (marksOf (writtenHead flag (addressOf cylinder head))) (now (marks .entry)) ⌝ }
 {
-    if track.len() < 55 {
+    if track.len() < HEAD {
         return false;
     }
-    if marks.len() < 55 {
+    if marks.len() < HEAD {
         return false;
     }
     put_head(track, flag, cylinder, head);
-    put_run(marks, 0, 55, 0);
+    put_run(marks, 0, HEAD, 0);
     true
 }

@@ -5,6 +5,7 @@ use mathlib.Core.List.{List, [], _∷_, map}
 use lib.ListN.{length, drop}
 use lib.Dec.{leb, ltb, eqb}
 use Rattle.base.specs.Pick.{pick}
+use Rattle.format.specs.Layout.{firstCountLength}
 use Rattle.format.specs.Answer.{lentWrong, markStray, sectorRepeated}
 use Rattle.format.specs.Judged.{Judged, good, then, require}
 use Rattle.format.specs.Lent.{lentForReading, cells}
@@ -87,7 +88,7 @@ spansOf h c = spans (drop (firstCountPlace (h .place)) c)
 
 -- No marked opening may start before this place: the end of sector 0's count, which has 18 bytes.
 abbrev pub firstCountEnd : ℕ → ℕ
-firstCountEnd p = p + 43
+firstCountEnd p = firstCountPlace p + firstCountLength
 
 -- The sectors of the track c behind its home h: 5, then sector by sector, last 13.
 unfoldable pub judgeBehind : Home → List ℕ → Judged (List Placed)

@@ -1,5 +1,6 @@
 -- The answer of a call: its number and its place, with one name for each row of the table.
 use Prim.Native.Nat.{ℕ}
+use Rattle.format.specs.Layout.{homeFirst}
 use Rattle.format.specs.declared.Answer.{Answer as AnswerCode}
 
 -- An answer: the number of its row in the table, and the place of the fault in bytes after index.
@@ -29,7 +30,7 @@ lentWrong = answerAt 1 0
 
 -- 2: home opens nowhere in its window, which starts at 23.
 abbrev pub homeMissing : Answer
-homeMissing = answerAt 2 23
+homeMissing = answerAt 2 homeFirst
 
 -- 3: the check or the closing byte of home at p is wrong.
 abbrev pub homeCheckWrong : ℕ → Answer

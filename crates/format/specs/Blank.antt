@@ -5,6 +5,7 @@ use mathlib.Core.List.{List, [], _∷_, _++_}
 use lib.ListN.{length, replicate}
 use lib.Dec.{leb}
 use Rattle.base.specs.Pick.{pick}
+use Rattle.format.specs.Layout.{indexGapLength}
 use Rattle.format.specs.Answer.{lentWrong, wantedWrong}
 use Rattle.format.specs.Judged.{Judged, require}
 use Rattle.format.specs.Lent.{lentForWriting}
@@ -24,7 +25,7 @@ blankRight own flag partner key body =
 
 -- Home with the gaps before and after it.
 unfoldable pub writtenHead : ℕ → Address → List ℕ
-writtenHead flag own = replicate 30 0x00 ++ (writtenBlock (flag ∷ addressBytes own) ++ homeGap)
+writtenHead flag own = replicate indexGapLength 0x00 ++ (writtenBlock (flag ∷ addressBytes own) ++ homeGap)
 
 -- Sector 0.
 unfoldable pub blankSector : ℕ → Address → ℕ → List ℕ → List ℕ → Sector

@@ -4,6 +4,7 @@ use mathlib.Core.Bool.{Bool, _&&_}
 use mathlib.Core.List.{List}
 use lib.ListN.{length, getD}
 use lib.Dec.{leb}
+use Rattle.format.specs.Layout.{countTail, countInfoLength}
 use Rattle.format.specs.Opening.{closedAfter}
 use Rattle.format.specs.Flag.{countFlagRight}
 use Rattle.format.specs.Address.{Address, word, addressIn, addressRight, sameAddress}
@@ -31,11 +32,11 @@ dataLength r = word (getD r 7 0) (getD r 8 0)
 
 -- The count lies in its span, of which r is what follows the opening.
 unfoldable pub countFits : List ℕ → Bool
-countFits r = leb 12 (length r)
+countFits r = leb countTail (length r)
 
 -- Its check and closing byte are right.
 unfoldable pub countClosed : List ℕ → Bool
-countClosed r = closedAfter 9 r
+countClosed r = closedAfter countInfoLength r
 
 -- What sector 0's count settles for the later ones: the C and H that all counts of the track share.
 pub data Settled : Type 0 where

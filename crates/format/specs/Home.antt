@@ -1,9 +1,10 @@
 -- Home: 14 bytes that start 23 to 37 bytes after index.
-use Prim.Native.Nat.{ℕ, zero, suc, _+_}
+use Prim.Native.Nat.{ℕ, zero, suc, _+_, _-_}
 use mathlib.Core.Bool.{Bool, _&&_}
 use mathlib.Core.List.{List}
 use lib.ListN.{take, drop, getD}
 use Rattle.base.specs.Pick.{pick}
+use Rattle.format.specs.Layout.{homeFirst, homeLast, plainLength, homeTail, homeInfoLength, homeToCount}
 use Rattle.format.specs.Answer.{homeMissing, homeCheckWrong, homeFieldsWrong}
 use Rattle.format.specs.Judged.{Judged, good, refused, then, require}
 use Rattle.format.specs.Lent.{bytesOf}
@@ -18,11 +19,11 @@ homeFrom (suc n) p c = let later = homeFrom n (suc p) c in pick (startsWith plai
 
 -- Home's place: the window is the starts 23 to 37.
 unfoldable pub findHome : List ℕ → Judged ℕ
-findHome c = homeFrom 15 23 c
+findHome c = homeFrom (suc homeLast - homeFirst) homeFirst c
 
 -- The bytes after the opening of home at p: flag, C and H, check and closing byte.
 unfoldable pub homeBytes : ℕ → List ℕ → List ℕ
-homeBytes p c = bytesOf (take 8 (drop (p + 6) c))
+homeBytes p c = bytesOf (take homeTail (drop (p + plainLength) c))
 
 -- What home says of the track, with the place at which home opens.
 pub record Home : Type 0 where
@@ -41,7 +42,7 @@ homeFieldsRight h = homeFlagRight (h .flag) && addressInRange (h .address)
 -- What is judged of it: 3 where its check or closing byte is wrong, then 4.
 unfoldable pub judgeHomeOf : ℕ → List ℕ → Judged Home
 judgeHomeOf p r =
-    require (closedAfter 5 r) (homeCheckWrong p)
+    require (closedAfter homeInfoLength r) (homeCheckWrong p)
     (require (homeFieldsRight (homeOf p r)) (homeFieldsWrong p)
     (good (homeOf p r)))
 
@@ -51,4 +52,4 @@ judgeHome c = then (findHome c) (λ p. judgeHomeOf p (homeBytes p c))
 
 -- Sector 0's count opens 11 bytes after home, which has 14.
 abbrev pub firstCountPlace : ℕ → ℕ
-firstCountPlace p = p + 25
+firstCountPlace p = p + homeToCount

@@ -1,5 +1,6 @@
 -- The track format in the order of the scope document: how a track is lent, its layout, what the calls do, the answer numbers.
 pub mod Lent
+pub mod Layout
 pub mod Opening
 pub mod Home
 pub mod Flag

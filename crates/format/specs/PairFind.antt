@@ -5,6 +5,7 @@ use mathlib.Core.List.{List}
 use lib.ListN.{drop}
 use lib.Dec.{eqb}
 use Rattle.base.specs.Pick.{pick}
+use Rattle.format.specs.Layout.{plainLength}
 use Rattle.format.specs.Answer.{lentWrong, firstCountMissing, pairWrong}
 use Rattle.format.specs.Judged.{Judged, good, refused, then, require}
 use Rattle.format.specs.Lent.{lentForReading, cells}
@@ -37,13 +38,13 @@ fromFirstCount h c = drop (firstCountPlace (h .place)) c
 
 -- The track that sector 0's count names.
 unfoldable pub namedTrack : Home → List ℕ → Address
-namedTrack h c = countAddress (drop 6 (fromFirstCount h c))
+namedTrack h c = countAddress (drop plainLength (fromFirstCount h c))
 
 -- The home h of a track c whose count of sector 0 is right: 6, 9 for the count, 7, 8.
 unfoldable pub judgeFirstCount : Home → List ℕ → Judged Home
 judgeFirstCount h c =
     require (startsWith plainOpening (fromFirstCount h c)) (firstCountMissing (firstCountPlace (h .place)))
-    (then (judgeCount h 0 unsettled (firstCountPlace (h .place)) (afterOpening 6 (fromFirstCount h c))) (λ _. good h))
+    (then (judgeCount h 0 unsettled (firstCountPlace (h .place)) (afterOpening plainLength (fromFirstCount h c))) (λ _. good h))
 
 -- The first track's home and sector 0's count: 1 to 4, then the count.
 unfoldable pub judgeFirst : List ℕ → List ℕ → Judged Home

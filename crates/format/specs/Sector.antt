@@ -4,6 +4,7 @@ use mathlib.Core.Bool.{Bool, true, false, _&&_}
 use mathlib.Core.List.{List}
 use lib.ListN.{drop, length}
 use Rattle.base.specs.Pick.{pick}
+use Rattle.format.specs.Layout.{plainLength, markedLength}
 use Rattle.format.specs.Answer.{firstCountMissing, countCheckWrong, countFieldsWrong, spanTooShort, keyWrong, dataWrong}
 use Rattle.format.specs.Judged.{Judged, good, then, require}
 use Rattle.format.specs.Opening.{startsWith, plainOpening}
@@ -30,7 +31,7 @@ contentRight key body = leb (length key) 255 && leb (length body) 65535
 
 -- The length of the opening of a count: six bytes in sector 0, else eight.
 abbrev pub openingLength : Bool → ℕ
-openingLength first = pick first 6 8
+openingLength first = pick first plainLength markedLength
 
 -- The sector that stands in position 0 of a track is sector 0.
 abbrev pub isFirst : ℕ → Bool
@@ -76,5 +77,5 @@ judgeSector h i x p last r = then (judgeCount h i x p r) (λ _. readBlocks (isFi
 
 -- The sector in position i whose span is g: 6 where sector 0's count does not open, then what follows its opening.
 unfoldable pub readSpan : Home → ℕ → Settled → ℕ → Bool → List ℕ → Judged Sector
-readSpan h zero x p last g = require (startsWith plainOpening g) (firstCountMissing p) (judgeSector h 0 x p last (drop 6 g))
-readSpan h (suc i) x p last g = judgeSector h (suc i) x p last (drop 8 g)
+readSpan h zero x p last g = require (startsWith plainOpening g) (firstCountMissing p) (judgeSector h 0 x p last (drop plainLength g))
+readSpan h (suc i) x p last g = judgeSector h (suc i) x p last (drop markedLength g)

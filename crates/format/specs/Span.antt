@@ -5,6 +5,7 @@ use mathlib.Core.List.{List, [], _∷_, _++_}
 use lib.ListN.{length, take, drop}
 use lib.Dec.{ltb, eqb}
 use Rattle.base.specs.Pick.{pick}
+use Rattle.format.specs.Layout.{markedLength}
 use Rattle.format.specs.Lent.{unmarked}
 use Rattle.format.specs.Opening.{opens}
 
@@ -52,7 +53,7 @@ none (x ∷ xs) = false
 -- No mark of the span in position i stands outside its opening.
 unfoldable pub cleanSpan : ℕ → List ℕ → Bool
 cleanSpan zero g = unmarked g
-cleanSpan (suc i) g = unmarked (drop 8 g)
+cleanSpan (suc i) g = unmarked (drop markedLength g)
 
 -- The same of the spans gs, the first of which stands in position i.
 unfoldable pub cleanSpans : ℕ → List (List ℕ) → Bool

@@ -5,6 +5,7 @@ use mathlib.Core.List.{List, [], _∷_, _++_}
 use lib.ListN.{length, replicate}
 use lib.Dec.{leb}
 use Rattle.base.specs.Pick.{pick}
+use Rattle.format.specs.Layout.{gapLength}
 use Rattle.format.specs.Answer.{Answer, done, roomMissing}
 use Rattle.format.specs.Judged.{Judged, good, refused, then, require}
 use Rattle.format.specs.Lent.{bytesOf, marksOf}
@@ -16,7 +17,7 @@ use Rattle.format.specs.Sector.{Sector, openingLength}
 
 -- The gap after home.
 abbrev pub homeGap : List ℕ
-homeGap = replicate 11 0x00
+homeGap = replicate gapLength 0x00
 
 -- The gap after a count and after a key: nine FF and two 00.
 abbrev pub innerGap : List ℕ

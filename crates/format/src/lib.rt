@@ -2,6 +2,8 @@
 ghost use mathlib.Core.Path.{_≡_};
 ghost use Rattle.format.specs.Answer.{asAnswer, done, lentWrong, homeMissing, homeCheckWrong, homeFieldsWrong, markStray, firstCountMissing, countCheckWrong, countFieldsWrong, spanTooShort, keyWrong, dataWrong, sectorMissing, sectorRepeated, wantedWrong, roomMissing, pairWrong, patternWrong};
 
+pub mod layout;
+
 // The number and the place of an answer.
 pub struct Answer {
     pub number: u8,

@@ -20,6 +20,9 @@ use accepting::HomeJudged;
 use accepting::Judged;
 use accepting::judge;
 use accepting::judge_home;
+use format::layout::HOME_TO_COUNT;
+use format::layout::HOME_TO_COUNT_INFO;
+use format::layout::PLAIN;
 use sector::Address;
 use sector::Home;
 
@@ -33,11 +36,11 @@ pub struct Paired {
 fn behind_opening<'a>(track: &'a [u8], marks: &[u8], p: usize) -> &'a [u8]
     ensures { λ r. ⌜ now r ≡ afterOpening 6 (drop p (cells (now (track .entry)) (now (marks .entry)))) ⌝ }
 {
-    let span = search::span_at(track, marks, p, 6);
-    if span.length < 6 {
+    let span = search::span_at(track, marks, p, PLAIN);
+    if span.length < PLAIN {
         return &track[0..0];
     }
-    let size = span.length - 6;
+    let size = span.length - PLAIN;
     rest_of(
         track,
         Candidate {
@@ -55,7 +58,7 @@ fn judge_first_count(track: &[u8], marks: &[u8], h: Home) -> HomeJudged
     ensures { λ r. ⌜ judgedHome r ≡ judgeFirstCount (asHome h) (cells (now (track .entry)) (now (marks .entry))) ⌝ }
     ensures { λ r. ⌜ homeInWindow r ⌝ }
 {
-    let p = h.place + 25;
+    let p = h.place + HOME_TO_COUNT;
     if search::opens_plain(track, marks, p) {
         let r = behind_opening(track, marks, p);
         let a = sector::judge_count(h, 0, sector::Named::Unsettled, p, r);
@@ -99,7 +102,7 @@ fn names(track: &[u8], marks: &[u8], h: Home, a: Address) -> bool
     requires { ⌜ h .place ≤ 37 ⌝ }
     ensures { λ b. ⌜ b ≡ sameAddress (asAddress a) (namedTrack (asHome h) (cells (now (track .entry)) (now (marks .entry)))) ⌝ }
 {
-    let p = h.place + 31;
+    let p = h.place + HOME_TO_COUNT_INFO;
     let cylinder = cell_at(track, marks, p + 1) * 256 + cell_at(track, marks, p + 2);
     if a.cylinder as usize != cylinder {
         return false;

@@ -1,5 +1,6 @@
 -- What the search for home gives.
 use Prim.Native.Nat.{ℕ, _≤_}
+use Rattle.format.specs.Layout.{homeFirst, homeLast}
 use Rattle.format.specs.Answer.{homeMissing}
 use Rattle.format.specs.Judged.{Judged, good, refused}
 use Rattle.search.specs.declared.Found.{Found}
@@ -12,5 +13,5 @@ judgedPlace Nowhere = refused homeMissing
 
 -- A place that was found lies in the window, 23 to 37.
 abbrev pub inWindow : Found → Type 0
-inWindow (At p) = (23 ≤ p) × (p ≤ 37)
+inWindow (At p) = (homeFirst ≤ p) × (p ≤ homeLast)
 inWindow Nowhere = Unit {0}

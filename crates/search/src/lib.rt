@@ -11,15 +11,13 @@ ghost use Rattle.format.specs.Span.{unmarkedRun, runsToIndex, spanLength};
 ghost use Rattle.format.specs.Accept.{judgeMarks};
 ghost use Rattle.search.specs.Place.{judgedPlace, inWindow};
 ghost use Rattle.search.specs.Stray.{judgedMarks};
-
-// The bytes of a plain opening.
-const PLAIN: [u8; 6] = [0x00, 0x00, 0x00, 0x00, 0xFF, 0x0E];
-
-// The bytes of a marked opening.
-const MARKED: [u8; 8] = [0x00, 0x00, 0x00, 0x00, 0xFF, 0xFF, 0xFF, 0x0E];
-
-// The marks of a marked opening.
-const MARKED_MARKS: [u8; 8] = [0, 0, 0, 0, 0, 1, 1, 0];
+use format::layout::HOME_FIRST;
+use format::layout::HOME_LAST;
+use format::layout::MARKED;
+use format::layout::MARKED_OPENING;
+use format::layout::MARKED_OPENING_MARKS;
+use format::layout::PLAIN;
+use format::layout::PLAIN_OPENING;
 
 // Whether L is in range, 3,815 to 4,002.
 fn length_right(l: usize) -> bool
@@ -113,14 +111,14 @@ fn starts_with(track: &[u8], marks: &[u8], p: usize, opening: &[u8], marking: &[
 pub fn opens_plain(track: &[u8], marks: &[u8], p: usize) -> bool
     ensures { λ r. ⌜ r ≡ startsWith plainOpening (drop p (cells (now (track .entry)) (now (marks .entry)))) ⌝ }
 {
-    starts_with(track, marks, p, &PLAIN, &[0; 6])
+    starts_with(track, marks, p, &PLAIN_OPENING, &[0; PLAIN])
 }
 
 // Whether a marked opening stands at place p: eight bytes, of which the second and third FF are marked.
 pub fn opens_marked(track: &[u8], marks: &[u8], p: usize) -> bool
     ensures { λ r. ⌜ r ≡ opens (drop p (cells (now (track .entry)) (now (marks .entry)))) ⌝ }
 {
-    starts_with(track, marks, p, &MARKED, &MARKED_MARKS)
+    starts_with(track, marks, p, &MARKED_OPENING, &MARKED_OPENING_MARKS)
 }
 
 // Home's place, or that home opens nowhere in its window.
@@ -136,12 +134,12 @@ pub fn find_home(track: &[u8], marks: &[u8]) -> Found
 {
     let n = cell_count(track, marks);
     'search: loop {
-        'places: for place in 23..=37 {
-            for k in 0..6 {
+        'places: for place in HOME_FIRST..=HOME_LAST {
+            for k in 0..PLAIN {
                 if n <= place + k {
                     continue 'places;
                 }
-                if track[place + k] != PLAIN[k] {
+                if track[place + k] != PLAIN_OPENING[k] {
                     continue 'places;
                 }
                 if marks[place + k] > 0 {
@@ -231,7 +229,7 @@ pub fn judge_marks(track: &[u8], marks: &[u8], e: usize) -> Strayed
     let mut q = 0;
     while q < n {
         if opens_behind(track, marks, e, q) {
-            q += 8;
+            q += MARKED;
             continue;
         }
         if marks[q] != 0 {

@@ -19,19 +19,6 @@ starts-append [] q c = refl
 starts-append (x ∷ o) q [] = refl
 starts-append (x ∷ o) q (y ∷ c) = rw (starts-append o q c) (sym (and-assoc (eqb x y) (startsWith o c) (startsWith q (drop (length o) c))))
 
--- The six bytes of an unmarked opening, each tested by itself.
-pub plain-six : (c : List ℕ) → 6 ≤ length c
-    → startsWith plainOpening c
-    ≡ (eqb (getD c 0 0) 0 && (eqb (getD c 1 0) 0 && (eqb (getD c 2 0) 0 && (eqb (getD c 3 0) 0 && (eqb (getD c 4 0) 255 && eqb (getD c 5 0) 14)))))
-plain-six [] h = absurd (omega arith)
-plain-six (x ∷ []) h = absurd (omega arith)
-plain-six (x ∷ y ∷ []) h = absurd (omega arith)
-plain-six (x ∷ y ∷ z ∷ []) h = absurd (omega arith)
-plain-six (x ∷ y ∷ z ∷ u ∷ []) h = absurd (omega arith)
-plain-six (x ∷ y ∷ z ∷ u ∷ v ∷ []) h = absurd (omega arith)
-plain-six (x ∷ y ∷ z ∷ u ∷ v ∷ w ∷ c) h =
-    rw (eqb-comm x 0, eqb-comm y 0, eqb-comm z 0, eqb-comm u 0, eqb-comm v 255, eqb-comm w 14, and-true (eqb 14 w))
-
 -- A field with fewer than three bytes after its n information bytes is not closed.
 pub closed-short : (n : ℕ) (c : List ℕ) → length c < n + 3 → closedAfter n c ≡ false
 unfolding closedAfter closing checkBytes

@@ -3,6 +3,10 @@ ghost use mathlib.Core.Path.{_≡_};
 ghost use mathlib.Core.List.{[], _∷_, _++_};
 ghost use lib.ListN.{getD};
 ghost use Rattle.format.specs.Opening.{startsWith, plainOpening, closedAfter};
+use format::layout::CLOSING;
+use format::layout::CLOSING_BYTE;
+use format::layout::PLAIN;
+use format::layout::PLAIN_OPENING;
 
 // The byte at i, and 0 past the end.
 pub fn byte_at(r: &[u8], i: usize) -> u8
@@ -18,41 +22,40 @@ pub fn closed_after(r: &[u8], n: usize) -> bool
     if r.len() < n {
         return false;
     }
-    if r.len() - n < 3 {
+    if r.len() - n < CLOSING {
         return false;
     }
     let high = r[n];
     let low = r[n + 1];
     if crc::check_agrees(&r[..n], high, low) {
-        r[n + 2] == 204
+        r[n + 2] == CLOSING_BYTE
     } else {
         false
     }
+}
+
+// Whether the bytes start with these.
+fn starts_with(c: &[u8], opening: &[u8]) -> bool
+    ensures { λ b. ⌜ b ≡ startsWith (now (opening .entry)) (now (c .entry)) ⌝ }
+{
+    if c.len() < opening.len() {
+        return false;
+    }
+    let mut k = 0;
+    while k < opening.len() {
+        if c[k] != opening[k] {
+            return false;
+        }
+        k += 1;
+    }
+    true
 }
 
 // Whether the bytes start with an unmarked opening.
 pub fn starts_plain(c: &[u8]) -> bool
     ensures { λ b. ⌜ b ≡ startsWith plainOpening (now (c .entry)) ⌝ }
 {
-    if c.len() < 6 {
-        return false;
-    }
-    if c[0] != 0 {
-        return false;
-    }
-    if c[1] != 0 {
-        return false;
-    }
-    if c[2] != 0 {
-        return false;
-    }
-    if c[3] != 0 {
-        return false;
-    }
-    if c[4] != 255 {
-        return false;
-    }
-    c[5] == 14
+    starts_with(c, &PLAIN_OPENING)
 }
 
 // Whether the bytes start with an unmarked opening and one 00, the data block where DL = 0.
@@ -60,10 +63,10 @@ pub fn starts_empty(c: &[u8]) -> bool
     ensures { λ b. ⌜ b ≡ startsWith (plainOpening ++ 0x00 ∷ []) (now (c .entry)) ⌝ }
 {
     if starts_plain(c) {
-        if c.len() < 7 {
+        if c.len() <= PLAIN {
             return false;
         }
-        c[6] == 0
+        c[PLAIN] == 0
     } else {
         false
     }

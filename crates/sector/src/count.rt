@@ -10,6 +10,8 @@ use crate::fields::address_in;
 use crate::fields::address_right;
 use crate::fields::count_flag_right;
 use crate::fields::same_address;
+use format::layout::COUNT_INFO;
+use format::layout::COUNT_TAIL;
 
 // What the counts of a track name: nothing before sector 0's count, and from there its C and H.
 pub enum Named {
@@ -21,14 +23,14 @@ pub enum Named {
 pub fn count_fits(r: &[u8]) -> bool
     ensures { λ b. ⌜ b ≡ countFits (now (r .entry)) ⌝ }
 {
-    12 <= r.len()
+    COUNT_TAIL <= r.len()
 }
 
 // Whether check and closing byte of the count are right.
 pub fn count_closed(r: &[u8]) -> bool
     ensures { λ b. ⌜ b ≡ countClosed (now (r .entry)) ⌝ }
 {
-    closed_after(r, 9)
+    closed_after(r, COUNT_INFO)
 }
 
 // KL.

@@ -31,6 +31,8 @@ pub use fields::address_in_range;
 pub use fields::address_right;
 pub use fields::home_fields_right;
 pub use fields::names_itself;
+use format::layout::MARKED;
+use format::layout::PLAIN;
 
 // The answer for the count at p, in position i: 9 where it does not fit its span, then 7, then 8.
 pub fn judge_count(h: Home, i: usize, x: Named, p: usize, r: &[u8]) -> format::Answer
@@ -55,7 +57,7 @@ pub fn judge_count(h: Home, i: usize, x: Named, p: usize, r: &[u8]) -> format::A
 pub fn opening_length(first: bool) -> usize
     ensures { λ n. ⌜ n ≡ openingLength first ⌝ }
 {
-    if first { 6 } else { 8 }
+    if first { PLAIN } else { MARKED }
 }
 
 // The answer for the blocks of the count at p: 9 where they and the least gap do not fit its span, then 10, then 11.

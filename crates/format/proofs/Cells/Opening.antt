@@ -1,13 +1,14 @@
 -- Openings: where a list starts with another, where nothing is marked, and that openings do not overlap.
 use mathlib.Core.Path.{_≡_, refl, sym, ap, ap₂, _∙_}
-use Prim.Native.Nat.{ℕ, zero, suc, _≤_, _<_}
+use Prim.Native.Nat.{ℕ, zero, suc, _≤_, _<_, _+_}
 use native.Mathlib.Omega.{arith}
 use mathlib.Core.Bool.{Bool, true, false}
 use mathlib.Core.List.{List, [], _∷_, _++_}
 use mathlib.Core.Logic.{_⊎_, inl, inr}
 use lib.ListN.{length, take, drop, getD, replicate, length-append}
+use lib.Seq.{drop-cons}
 use lib.Dec.{ltb, eqb, lit<}
-use borrow.Author.Tests.{eqb-true, eq-eqb, ltb-true, lt-ltb}
+use borrow.Author.Tests.{eqb-true, eq-eqb, ne-eqb, ltb-true, lt-ltb}
 use Rattle.format.specs.Lent.{unmarked}
 use Rattle.format.specs.Opening.{startsWith, markedOpening, opens}
 use Rattle.base.proofs.Tests.{false-true, and-both, and-right, and-make}
@@ -24,6 +25,19 @@ starts-with-front (x ∷ o) [] e = false-true e
 starts-with-front (x ∷ o) (y ∷ c) e =
     let h = and-both (eqb x y) (startsWith o c) e in
     ap₂ (λ (z : ℕ) (zs : List ℕ). z ∷ zs) (sym (eqb-true x y (h .0))) (starts-with-front o c (h .1))
+
+-- An opening is compared from its cell k on with the cells from place q on, and so cell by cell.
+module _ (o c : List ℕ) (k q : ℕ) (h : k < length o) (l : q < length c) where
+  -- Another cell stands there.
+  pub starts-other : (getD o k 0 ≡ getD c q 0 → ⊥) → startsWith (drop k o) (drop q c) ≡ false
+  starts-other ne = rw (drop-cons o k 0 h, drop-cons c q 0 l, ne-eqb (getD o k 0) (getD c q 0) ne)
+
+  -- The same cell stands there.
+  pub starts-same : getD o k 0 ≡ getD c q 0 → startsWith (drop k o) (drop q c) ≡ startsWith (drop (k + 1) o) (drop (q + 1) c)
+  starts-same e =
+      let a : k + 1 ≡ suc k = omega arith in
+      let b : q + 1 ≡ suc q = omega arith in
+      rw (a, b, drop-cons o k 0 h, drop-cons c q 0 l, eq-eqb (getD o k 0) (getD c q 0) e)
 
 -- What starts with a list is at least as long.
 pub starts-length : (o c : List ℕ) → startsWith o c ≡ true → length o ≤ length c

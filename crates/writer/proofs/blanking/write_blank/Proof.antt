@@ -8,7 +8,7 @@ use Rattle.format.specs.Sector.{Sector}
 use Rattle.format.specs.Written.{writtenSector}
 use Rattle.format.specs.Blank.{blankSector}
 use Rattle.sector.specs.As.{asAddress}
-use Rattle.encode.specs.Room.{headSize}
+use Rattle.format.specs.Layout.{headLength}
 use Rattle.encode.proofs.Room.{both-fit}
 use Rattle.format.proofs.Sector.ReadBack.{length-written}
 use Rattle.writer.proofs.Filled.{wrote-over}
@@ -43,7 +43,7 @@ returns c =
     let T1 = one .last .0 in
     let M1 = one .last .1 .0 in
     let size = length-written S in
-    let wrote : one .result ≡ true = one .ensures .0 ∙ both-fit headSize (length (a .track .now)) (length (a .marks .now)) (omega (arith, pre)) (omega (arith, pre)) in
+    let wrote : one .result ≡ true = one .ensures .0 ∙ both-fit headLength (length (a .track .now)) (length (a .marks .now)) (omega (arith, pre)) (omega (arith, pre)) in
     let longT : length T1 ≡ length (a .track .now) = one .kept .0 in
     let longM : length M1 ≡ length (a .track .now) = one .kept .1 .0 ∙ pre .1 .1 in
     let room : 55 + length (writtenSector S) ≤ length (a .track .now) = omega (arith, pre, size) in (
