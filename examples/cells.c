@@ -144,7 +144,7 @@ static void receive_damaged(struct capture *capture) {
     capture->bit_cells[2 * DATA] ^= 0x80;
     expect("from cells, one bit cell lost",
            iso3561_from_cells(capture->bit_cells, CELL_BYTES, read.track, L, read.marks, L),
-           ISO3561_BIT_CELLS, DATA);
+           ISO3561_PATTERN_WRONG, DATA);
     expect_same("buffers after a refusal", &read, &before, sizeof read);
 }
 
@@ -156,7 +156,7 @@ static void send_damaged(struct pair *pair) {
     pair->marks[OPENING + 7] = 1;
     expect("to cells, a mark on 0E",
            iso3561_to_cells(pair->track, L, pair->marks, L, capture.bit_cells, CELL_BYTES),
-           ISO3561_BIT_CELLS, OPENING + 7);
+           ISO3561_PATTERN_WRONG, OPENING + 7);
     expect_same("bit cells after a refusal", &capture, &before, sizeof capture);
 }
 

@@ -91,7 +91,7 @@ static void walk(const struct pair *pair) {
         from = iso3561_walk_place(step) + 1;
     }
     step = iso3561_walk(pair->track, L, pair->marks, L, from);
-    expect("walk", iso3561_walk_number(step), iso3561_walk_place(step), ISO3561_NOT_FOUND, 0);
+    expect("walk", iso3561_walk_number(step), iso3561_walk_place(step), ISO3561_SECTOR_MISSING, 0);
 }
 
 /* Sector 1 gets its final data; a sector that is not there is refused. */
@@ -106,7 +106,7 @@ static void correct(const struct pair *old, struct pair *new_pair) {
     refused = iso3561_correct(old->track, L, old->marks, L, new_pair->track, L,
                               new_pair->marks, L, 9, key, 3, data, 80);
     expect("correct sector 9", iso3561_number(refused), iso3561_place(refused),
-           ISO3561_NOT_FOUND, 0);
+           ISO3561_SECTOR_MISSING, 0);
 }
 
 /* The pair as the listing program reads it. */

@@ -25,24 +25,24 @@ extern "C" {
 
 /* The number of an answer. */
 enum iso3561_number {
-    ISO3561_DONE = 0,         /* done */
-    ISO3561_BAD_INPUT = 1,    /* a lent length or a mark is out of rule */
-    ISO3561_NO_HOME = 2,      /* home opens nowhere in its window */
-    ISO3561_HOME_CHECK = 3,   /* home's check or closing byte is wrong */
-    ISO3561_HOME_FIELD = 4,   /* home's flag, cylinder or head is out of rule */
-    ISO3561_STRAY_MARK = 5,   /* a mark stands outside a whole opening, or too early */
-    ISO3561_NO_COUNT = 6,     /* sector 0's count does not open */
-    ISO3561_COUNT_CHECK = 7,  /* a count's check or closing byte is wrong */
-    ISO3561_COUNT_FIELD = 8,  /* a count's flag, cylinder or head is out of rule */
-    ISO3561_SPAN = 9,         /* a count, its blocks or the least gap do not fit the span */
-    ISO3561_BAD_KEY = 10,     /* the key does not open, or fails its check or closing byte */
-    ISO3561_BAD_DATA = 11,    /* the data block likewise, or is not 00 for DL = 0 */
-    ISO3561_NOT_FOUND = 12,   /* no candidate carries S, or none is left to walk to */
-    ISO3561_REPEATED = 13,    /* two sectors carry one number, or Add repeats one */
-    ISO3561_BAD_WANTED = 14,  /* a wanted field is out of rule */
-    ISO3561_FULL = 15,        /* fewer than 13 bytes would be left behind the last block */
-    ISO3561_PAIR = 16,        /* the two tracks do not agree, or the first is flagged 11 */
-    ISO3561_BIT_CELLS = 17    /* a byte's bit cells are no legal pattern, or a marked byte is not FF */
+    ISO3561_DONE = 0,                /* done */
+    ISO3561_LENT_WRONG = 1,          /* a lent length or a mark is out of rule */
+    ISO3561_HOME_MISSING = 2,        /* home opens nowhere in its window */
+    ISO3561_HOME_CHECK_WRONG = 3,    /* home's check or closing byte is wrong */
+    ISO3561_HOME_FIELDS_WRONG = 4,   /* home's flag, cylinder or head is out of rule */
+    ISO3561_MARK_STRAY = 5,          /* a mark stands outside a whole opening, or too early */
+    ISO3561_FIRST_COUNT_MISSING = 6, /* sector 0's count does not open */
+    ISO3561_COUNT_CHECK_WRONG = 7,   /* a count's check or closing byte is wrong */
+    ISO3561_COUNT_FIELDS_WRONG = 8,  /* a count's flag, cylinder or head is out of rule */
+    ISO3561_SPAN_TOO_SHORT = 9,      /* a count, its blocks or the least gap do not fit the span */
+    ISO3561_KEY_WRONG = 10,          /* the key does not open, or fails its check or closing byte */
+    ISO3561_DATA_WRONG = 11,         /* the data block likewise, or is not 00 for DL = 0 */
+    ISO3561_SECTOR_MISSING = 12,     /* no candidate carries S, or none is left to walk to */
+    ISO3561_SECTOR_REPEATED = 13,    /* two sectors carry one number, or Add repeats one */
+    ISO3561_WANTED_WRONG = 14,       /* a wanted field is out of rule */
+    ISO3561_ROOM_MISSING = 15,       /* fewer than 13 bytes would be left behind the last block */
+    ISO3561_PAIR_WRONG = 16,         /* the two tracks do not agree, or the first is flagged 11 */
+    ISO3561_PATTERN_WRONG = 17       /* a byte's bit cells are no legal pattern, or a marked byte is not FF */
 };
 
 /* What Find and Pair find are asked for. */
