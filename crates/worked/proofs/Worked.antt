@@ -13,11 +13,11 @@ use Rattle.format.specs.Flag.{homeFlagRight, sequenceRight, countFlagRight, nam
 use Rattle.format.specs.Address.{addressIn, addressBytes, addressInRange, sameAddress, addressRight}
 use Rattle.format.specs.Home.{homeFrom, findHome, homeBytes, homeOf, homeFieldsRight, judgeHomeOf, judgeHome}
 use Rattle.format.specs.Count.{countFits, countClosed, countAddressRight, countFieldsRight}
-use Rattle.format.specs.Block.{keySize, dataSize, dataOffset, blockEnd, leastGap, blocksFit, blockRight, blockInfo, keyRight, dataRight, keyInfo, dataInfo}
+use Rattle.format.specs.Block.{keySize, dataOffset, blockEnd, leastGap, blocksFit, blockRight, blockInfo, keyRight, dataRight, keyInfo, dataInfo}
+use Rattle.format.specs.Written.{dataSize, gapOne, countInfo, writtenBlock, writtenKey, writtenData, countOpening, writtenSector, asPair, gapAfter, reach, writtenSpans, writtenBehind}
 use Rattle.format.specs.Span.{unmarkedRun, runsToIndex, spanLength, afterOpening, beforeOpening, laterSpans, spans}
 use Rattle.format.specs.Sector.{sectorIn, settle, judgeCount, readBlocks, judgeSector, readSpan, contentRight}
 use Rattle.format.specs.Accept.{judgeMarks, readSpans, placedFrom, among, judgeNumbers, judgeBehind, acceptCells, accept, endOf, fromNumber}
-use Rattle.format.specs.Written.{gapOne, countInfo, writtenBlock, writtenKey, writtenData, countOpening, writtenSector, asPair, gapAfter, reach, writtenSpans, writtenBehind}
 use Rattle.format.specs.Blank.{namedBy, blankRight, writtenHead, blankSector, blank}
 use Rattle.format.specs.Add.{judgeAbsent, addedFlag, addedSector, addedTo, addCells, add}
 use Rattle.base.proofs.Tests.{and-both}

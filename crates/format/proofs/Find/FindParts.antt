@@ -7,18 +7,19 @@ use mathlib.Core.Bool.{Bool, true, false}
 use mathlib.Core.List.{List, [], _∷_}
 use lib.ListN.{length, take, drop}
 use lib.Dec.{eqb}
-use borrow.Author.Tests.{eqb-true, leb-true}
+use borrow.Author.Tests.{eqb-true}
 use Rattle.format.specs.Answer.{keyWrong, dataWrong, sectorMissing, sectorRepeated}
 use Rattle.format.specs.Judged.{good}
 use Rattle.format.specs.Opening.{startsWith, plainOpening, closedAfter}
 use Rattle.format.specs.Count.{countNumber, keyLength, dataLength}
-use Rattle.format.specs.Block.{keyOffset, keySize, dataSize, dataOffset, blockEnd, leastGap, blocksFit, blockRight, blockInfo, keyRight, dataRight, keyInfo, dataInfo}
+use Rattle.format.specs.Block.{keyOffset, dataOffset, blocksFit, blockRight, blockInfo, keyRight, dataRight, keyInfo, dataInfo}
 use Rattle.format.specs.Sector.{openingLength}
 use Rattle.format.specs.Candidate.{Candidate}
 use Rattle.format.specs.Find.{Wanted, theKey, theData, Part, partAt, carrying, only, keyPlace, dataPlace, wantedPart}
 use Rattle.format.proofs.Base.Judged.{good-inj, refused-good, require-good}
 use Rattle.base.proofs.Tests.{cases, and-both}
-use Rattle.format.proofs.Sector.Sizes.{key-size-least, data-size-least, gap-least}
+use Rattle.format.proofs.Sector.Sizes.{gap-least}
+use Rattle.format.proofs.Sector.BlockEnd.{key-in-offset, data-in-end, end-in-span}
 use Rattle.base.specs.Lists.{Member}
 
 -- Where the key or the data block opens behind the count's opening, of which r is what follows.
@@ -53,11 +54,8 @@ right-both n c e = and-both (startsWith plainOpening c) (closedAfter n (drop 6 c
 
 -- The block asked for ends in what follows the opening.
 pub block-fits : (w : Wanted) (last : Bool) (r : List ℕ) → blocksFit last r ≡ true → offsetOf w r + 6 + lengthOf w r + 3 ≤ length r
-unfolding blocksFit blockEnd dataOffset
-block-fits theKey last r e =
-    omega (arith, leb-true (23 + keySize (keyLength r) + dataSize (dataLength r) + leastGap last) (length r) e, key-size-least (keyLength r), data-size-least (dataLength r), gap-least last)
-block-fits theData last r e =
-    omega (arith, leb-true (23 + keySize (keyLength r) + dataSize (dataLength r) + leastGap last) (length r) e, data-size-least (dataLength r), gap-least last)
+block-fits theKey last r e = omega (arith, end-in-span r last e, key-in-offset r, data-in-end r, gap-least last)
+block-fits theData last r e = omega (arith, end-in-span r last e, data-in-end r, gap-least last)
 
 -- What a part is that was found to be right.
 pub record Right (w : Wanted) (x : Candidate) (part : Part) : Type 0 where

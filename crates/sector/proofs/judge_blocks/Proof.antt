@@ -4,7 +4,8 @@ use Prim.Native.Nat.{ℕ, _+_}
 use native.Mathlib.Omega.{arith}
 use Rattle.format.specs.Answer.{keyWrong, dataWrong}
 use Rattle.format.specs.Sector.{readBlocks}
-use Rattle.sector.proofs.Block.{opening-le, offset-lt}
+use Rattle.sector.proofs.Block.{opening-le}
+use Rattle.format.proofs.Sector.BlockEnd.{offset-lt}
 use borrow.Author.Needs.{needs}
 use Rattle.sector.proofs.judge_blocks.Statement.{statement}
 use Rattle.sector.proofs.judge_blocks.Tie as tie
