@@ -24,6 +24,7 @@ use Rattle.format.proofs.Sector.ReadSector.{fit-key, fit-data}
 use Rattle.format.proofs.Sector.Standing.{FitsCount}
 use Rattle.sectors.specs.Stepped.{Stepped, steppedIn, restAt, steppedAt, addressAt}
 use Rattle.sectors.proofs.Rest.{opening-least, after-place, stepped-here}
+use Rattle.format.specs.Blocks.{blocksAt}
 
 -- The sector x stands at place p of the track t with the marks m, and `last` says that its span runs to index.
 pub record Stepping (t m : List ℕ) (p : ℕ) (first : Bool) (x : Placed) (last : Bool) : Type 0 where
@@ -123,7 +124,7 @@ module _ (t m : List ℕ) (first : Bool) (p : ℕ) (g : List ℕ) (last : Bool) 
   data-place-here = ap (λ (n : ℕ). p + o + 23 + 6 + keySize n) key-length-here ∙ omega (arith, offset-is r)
 
   end-here : endOf shown ≡ p + o + blockEnd r
-  unfolding endOf sectorIn
+  unfolding endOf blocksAt sectorIn
   end-here = ap (λ (xs : List ℕ). p + o + blockEnd xs) behind
 
   key-below : listed shown .keyPlace + keyLength r ≤ p + o + dataOffset r + 6

@@ -6,15 +6,17 @@ use mathlib.Core.List.{List}
 use lib.ListN.{length, drop, length-take, length-drop}
 use native.Mathlib.Omega.{arith}
 use Rattle.base.specs.Pick.{pick}
-use Rattle.format.specs.Answer.{firstCountMissing, countCheckWrong, countFieldsWrong, spanTooShort, keyWrong, dataWrong}
+use Rattle.format.specs.Answer.{firstCountMissing, countCheckWrong, countFieldsWrong, spanTooShort}
 use Rattle.format.specs.Judged.{good}
 use Rattle.format.specs.Opening.{startsWith, plainOpening}
 use Rattle.format.specs.Home.{Home}
 use Rattle.format.specs.Count.{Settled, keyLength, dataLength, countFits, countClosed, countFieldsRight}
-use Rattle.format.specs.Block.{keyOffset, dataOffset, blockEnd, leastGap, blocksFit, keyRight, dataRight, keyInfo, dataInfo, blockInfo}
+use Rattle.format.specs.Blocks.{theKey, theData, blocksAt, judgeFit}
+use Rattle.format.specs.Block.{blockEnd, leastGap, blocksFit, keyRight, dataRight, keyInfo, dataInfo, blockInfo}
 use Rattle.format.specs.Sector.{Sector, openingLength, isFirst, sectorIn, judgeCount, readBlocks, judgeSector, readSpan}
 use Rattle.format.proofs.Base.Judged.{good-inj, then-good, require-good, require-holds}
 use Rattle.format.proofs.Sector.Sizes.{rest-least}
+use Rattle.format.proofs.Sector.BlocksJudged.{fit-good, part-good}
 use Rattle.format.proofs.Sector.BlockEnd.{key-in-offset, data-in-end, end-in-span}
 
 -- What follows the count's opening in the span g of position i.
@@ -50,14 +52,17 @@ blocks-inv : (first : Bool) (p : ℕ) (last : Bool) (r : List ℕ) (s : Sector) 
     → (blocksFit last r ≡ true) × ((keyRight r ≡ true) × ((dataRight r ≡ true) × (s ≡ sectorIn first r)))
 unfolding readBlocks
 blocks-inv first p last r s e =
-    let a = require-good (blocksFit last r) (spanTooShort p) _ s e in
-    let b = require-good (keyRight r) (keyWrong (p + openingLength first + keyOffset)) _ s (a .1) in
-    let c = require-good (dataRight r) (dataWrong (p + openingLength first + dataOffset r)) _ s (b .1) in
-    (a .0, (b .0, (c .0, sym (good-inj (sectorIn first r) s (c .1)))))
+    let q : ℕ = p + openingLength first in
+    let a = then-good (judgeFit p last r) _ s e in
+    let b = then-good (blocksAt q r .key) _ s (a .2) in
+    let c = then-good (blocksAt q r .body) _ s (b .2) in (
+      fit-good p last r (a .0) (a .1),
+      (part-good theKey q r (b .0) (b .1) .0, (part-good theData q r (c .0) (c .1) .0, sym (good-inj (sectorIn first r) s (c .2)))),
+    )
 
 blocks-make : (first : Bool) (p : ℕ) (last : Bool) (r : List ℕ) (s : Sector) → blocksFit last r ≡ true → keyRight r ≡ true → dataRight r ≡ true → s ≡ sectorIn first r
     → readBlocks first p last r ≡ good s
-unfolding readBlocks
+unfolding readBlocks judgeFit blocksAt
 blocks-make first p last r s a b c e = rw (a, b, c, e)
 
 -- A reading that gives a sector has passed every test.
