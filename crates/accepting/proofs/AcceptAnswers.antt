@@ -2,32 +2,34 @@
 use mathlib.Core.Path.{_≡_, refl, sym, ap, _∙_}
 use Prim.Native.Nat.{ℕ, zero, suc, _+_, _%_}
 use native.Mathlib.Omega.{arith}
-use mathlib.Core.Bool.{Bool, true, false}
+use mathlib.Core.Bool.{Bool, false}
 use mathlib.Core.List.{List, [], _∷_}
 use lib.ListN.{length, getD, drop}
 use lib.Dec.{eqb}
 use borrow.Author.Tests.{ne-eqb, eqb-true, eqb-false}
-use Rattle.format.specs.Answer.{Answer, spanTooShort, countCheckWrong, countFieldsWrong, keyWrong, dataWrong}
-use Rattle.format.specs.Judged.{Judged, good, refused, then, require, answerOf}
+use Rattle.format.specs.Answer.{Answer, spanTooShort, countCheckWrong, countFieldsWrong}
+use Rattle.format.specs.Judged.{Judged, good, refused, then, answerOf}
 use Rattle.format.specs.Flag.{sequenceRight, countFlagRight}
 use Rattle.format.specs.Address.{Address}
 use Rattle.format.specs.Home.{Home}
 use Rattle.format.specs.Count.{Settled, settled, countFits, countClosed, countFieldsRight}
-use Rattle.format.specs.Block.{keyOffset, dataOffset, blocksFit, keyRight, dataRight}
 use Rattle.format.specs.Span.{none}
 use Rattle.format.specs.Sector.{openingLength, isFirst, sectorIn, settle, judgeCount, readBlocks, judgeSector, readSpan}
 use Rattle.format.specs.Accept.{readSpans}
 use Rattle.base.proofs.Tests.{cases}
+use Rattle.format.specs.Blocks.{theKey, theData, blocksAt, judgeFit}
+use Rattle.format.proofs.Sector.BlocksJudged.{fit-zero, partIn, part-zero}
+use Rattle.format.proofs.Base.Judged.{require-zero}
 
 -- An outcome whose answer is not 0 is a refusal, and what would follow is not reached.
 pub refusal-stays : {A B : Type 0} (j : Judged A) (k : A → Judged B) → (answerOf j .number ≡ 0 → ⊥) → answerOf (then j k) ≡ answerOf j
 refusal-stays (good x) k h = absurd (h refl)
 refusal-stays (refused a) k h = refl
 
--- A refusal by another number than 0 is not good.
-pub require-zero : {A : Type 0} (b : Bool) (a : Answer) (j : Judged A) → (a .number ≡ 0 → ⊥) → answerOf (require b a j) .number ≡ 0 → (b ≡ true) × (answerOf j .number ≡ 0)
-require-zero true a j h e = (refl, e)
-require-zero false a j h e = absurd (h e)
+-- Where one judgement after another answers 0, the first does.
+pub then-zero : {A B : Type 0} (j : Judged A) (k : A → Judged B) → answerOf (then j k) .number ≡ 0 → answerOf j .number ≡ 0
+then-zero (good x) k e = refl
+then-zero (refused a) k e = e
 
 -- The count is good where its answer is 0.
 pub count-zero : (h : Home) (i : ℕ) (x : Settled) (p : ℕ) (r : List ℕ) → answerOf (judgeCount h i x p r) .number ≡ 0 → judgeCount h i x p r ≡ good tt
@@ -42,10 +44,13 @@ count-zero h i x p r e =
 pub blocks-zero : (first : Bool) (p : ℕ) (last : Bool) (r : List ℕ) → answerOf (readBlocks first p last r) .number ≡ 0 → readBlocks first p last r ≡ good (sectorIn first r)
 unfolding readBlocks
 blocks-zero first p last r e =
-    let a = require-zero (blocksFit last r) (spanTooShort p) _ (λ q. omega arith) e in
-    let b = require-zero (keyRight r) (keyWrong (p + openingLength first + keyOffset)) _ (λ q. omega arith) (a .1) in
-    let d = require-zero (dataRight r) (dataWrong (p + openingLength first + dataOffset r)) (good (sectorIn first r)) (λ q. omega arith) (b .1) in
-    rw (a .0, b .0, d .0)
+    let q : ℕ = p + openingLength first in
+    let a : judgeFit p last r ≡ good tt = fit-zero p last r (then-zero (judgeFit p last r) _ e) in
+    let f = rw a at e in
+    let b : blocksAt q r .key ≡ good (partIn theKey q r) = part-zero theKey q r (then-zero (blocksAt q r .key) _ f) in
+    let g = rw b at f in
+    let d : blocksAt q r .body ≡ good (partIn theData q r) = part-zero theData q r (then-zero (blocksAt q r .body) _ g) in
+    rw (a, b, d)
 
 -- A position is the first by the test for 0.
 pub first-test : (i : ℕ) → isFirst i ≡ eqb i 0

@@ -6,8 +6,8 @@ use mathlib.Core.List.{List, [], _∷_, _++_}
 use lib.ListN.{length}
 use borrow.Author.Tests.{eq-eqb, ne-eqb}
 use Rattle.format.specs.Opening.{plainOpening}
-use Rattle.format.specs.Block.{keySize, dataSize}
-use Rattle.format.specs.Written.{innerGap, writtenBlock, writtenKey, writtenData}
+use Rattle.format.specs.Block.{keySize}
+use Rattle.format.specs.Written.{dataSize, innerGap, writtenBlock, writtenKey, writtenData}
 
 -- Nothing is written for no key.
 pub key-none : (xs : List ℕ) → length xs ≡ 0 → writtenKey xs ≡ []

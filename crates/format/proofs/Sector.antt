@@ -1,5 +1,7 @@
 -- One sector and its span: what is read of it, and that what is written reads back. The groups behind look at no byte of a count or block.
 pub mod Sizes
+pub mod BlockEnd
+pub mod BlocksJudged
 pub mod ReadSector
 pub mod WrittenRest
 pub mod Standing

@@ -12,7 +12,7 @@ use Rattle.format.specs.Lent.{lentForReading, cells}
 use Rattle.format.specs.Opening.{opens}
 use Rattle.format.specs.Home.{Home, judgeHome, firstCountPlace}
 use Rattle.format.specs.Count.{Settled, unsettled}
-use Rattle.format.specs.Block.{blockEnd}
+use Rattle.format.specs.Blocks.{blocksAt}
 use Rattle.format.specs.Span.{spans, none}
 use Rattle.format.specs.Sector.{Sector, settle, readSpan, openingLength}
 
@@ -50,7 +50,7 @@ placedFrom p (g ∷ gs) (s ∷ ss) = record { place = p; span = g; sector = s } 
 unfoldable pub endOf : Placed → ℕ
 endOf x =
     let o = openingLength (x .sector .first) in
-    x .place + o + blockEnd (drop o (x .span))
+    blocksAt (x .place + o) (drop o (x .span)) .end
 
 -- The sectors of placed ones.
 abbrev pub sectorsOf : List Placed → List Sector

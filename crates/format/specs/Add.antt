@@ -10,7 +10,6 @@ use Rattle.format.specs.Judged.{Judged, good, refused, then, require}
 use Rattle.format.specs.Lent.{lentForReading, cells, bothLent}
 use Rattle.format.specs.Flag.{condition}
 use Rattle.format.specs.Home.{Home}
-use Rattle.format.specs.Block.{blockEnd}
 use Rattle.format.specs.Sector.{Sector, openingLength, contentRight}
 use Rattle.format.specs.Accept.{Placed, acceptCells, endOf, fromNumber}
 use Rattle.format.specs.Written.{gapAfter, writtenBehind, Pair, asPair}

@@ -16,17 +16,13 @@ keyOffset = 23
 unfoldable pub keySize : ℕ → ℕ
 keySize n = pick (eqb n 0) 0 (n + 20)
 
--- What a data block of n bytes takes: opening, information, check and closing byte; if n = 0 the opening and one 00.
-unfoldable pub dataSize : ℕ → ℕ
-dataSize n = pick (eqb n 0) 7 (n + 9)
-
 -- Where the data block opens: behind a gap of 11, which follows the key, or the count of a sector without one.
 unfoldable pub dataOffset : List ℕ → ℕ
 dataOffset r = keyOffset + keySize (keyLength r)
 
--- Where the data block ends.
+-- Where the data block that is read ends: behind its opening, information, check and closing byte; if DL = 0 behind the opening and one 00.
 unfoldable pub blockEnd : List ℕ → ℕ
-blockEnd r = dataOffset r + dataSize (dataLength r)
+blockEnd r = dataOffset r + pick (eqb (dataLength r) 0) 7 (dataLength r + 9)
 
 -- The least gap after the block: 13 where the span runs to index, else 21.
 unfoldable pub leastGap : Bool → ℕ

@@ -4,31 +4,18 @@ use mathlib.Core.List.{List, [], _∷_}
 use lib.ListN.{take, drop}
 use lib.Dec.{eqb}
 use Rattle.base.specs.Pick.{pick}
-use Rattle.format.specs.Answer.{lentWrong, spanTooShort, keyWrong, dataWrong, sectorMissing, sectorRepeated}
+use Rattle.format.specs.Answer.{lentWrong, sectorMissing, sectorRepeated}
 use Rattle.format.specs.Judged.{Judged, good, refused, then, require}
 use Rattle.format.specs.Lent.{lentForReading, cells}
-use Rattle.format.specs.Count.{countNumber, keyLength, dataLength}
-use Rattle.format.specs.Block.{keyOffset, dataOffset, blocksFit, keyRight, dataRight}
+use Rattle.format.specs.Count.{countNumber}
+use Rattle.format.specs.Blocks.{Part, Wanted, theKey, theData, blocksAt, wantedPart, judgeFit}
 use Rattle.format.specs.Sector.{openingLength, Sector}
 use Rattle.format.specs.Candidate.{Candidate, candidates}
-
--- Which part of a sector is asked for.
-pub data Wanted : Type 0 where
-  theKey theData : Wanted
 
 -- The key or the data of a sector.
 abbrev pub contentOf : Wanted → Sector → List ℕ
 contentOf theKey s = s .keyBytes
 contentOf theData s = s .dataBytes
-
--- A part of the lent track.
-pub record Part : Type 0 where
-  pub start : ℕ
-  pub size : ℕ
-
--- The part of n bytes from place p on; an empty part may lie anywhere and is put at 0.
-unfoldable pub partAt : ℕ → ℕ → Part
-partAt p n = record { start = pick (eqb n 0) 0 p; size = n }
 
 -- The bytes of a part.
 unfoldable pub partOf : List ℕ → Part → List ℕ
@@ -45,22 +32,10 @@ only [] = refused sectorMissing
 only (x ∷ []) = good x
 only (x ∷ y ∷ r) = refused (sectorRepeated (y .place))
 
--- Where the key of a candidate opens.
-abbrev pub keyPlace : Candidate → ℕ
-keyPlace x = x .place + openingLength (x .first) + keyOffset
-
--- Where its data block opens.
-abbrev pub dataPlace : Candidate → ℕ
-dataPlace x = x .place + openingLength (x .first) + dataOffset (x .rest)
-
--- The part asked for, which alone is opened and checked: 10 for the key, 11 for the data.
-unfoldable pub wantedPart : Wanted → Candidate → Judged Part
-wantedPart theKey x = require (keyRight (x .rest)) (keyWrong (keyPlace x)) (good (partAt (keyPlace x + 6) (keyLength (x .rest))))
-wantedPart theData x = require (dataRight (x .rest)) (dataWrong (dataPlace x)) (good (partAt (dataPlace x + 6) (dataLength (x .rest))))
-
--- The part asked for of a candidate: 9 where its blocks and the least gap do not fit its span, then 10 or 11.
+-- The part asked for of a candidate: 9 where its blocks and the least gap do not fit its span, then the part, which alone is opened and checked: 10 for the key, 11 for the data.
 unfoldable pub candidatePart : Wanted → Candidate → Judged Part
-candidatePart w x = require (blocksFit (x .last) (x .rest)) (spanTooShort (x .place)) (wantedPart w x)
+candidatePart w x =
+    then (judgeFit (x .place) (x .last) (x .rest)) (λ _. wantedPart w (blocksAt (x .place + openingLength (x .first)) (x .rest)))
 
 -- The cells of a track: 12, 13, then the part of the only candidate that carries S.
 unfoldable pub findCells : ℕ → Wanted → List ℕ → Judged Part

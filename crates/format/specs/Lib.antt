@@ -7,6 +7,7 @@ pub mod Flag
 pub mod Address
 pub mod Count
 pub mod Block
+pub mod Blocks
 pub mod Span
 pub mod Sector
 pub mod Accept

@@ -17,7 +17,8 @@ use Rattle.format.specs.Count.{unsettled, countAddress}
 use Rattle.format.specs.Span.{afterOpening}
 use Rattle.format.specs.Sector.{judgeCount}
 use Rattle.format.specs.Accept.{Accepted, accept}
-use Rattle.format.specs.Find.{Wanted, Part, find}
+use Rattle.format.specs.Find.{find}
+use Rattle.format.specs.Blocks.{Wanted, Part}
 
 -- The outcome, and which track it speaks of: 0 the first, 1 the second.
 pub record Paired : Type 0 where

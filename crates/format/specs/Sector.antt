@@ -5,13 +5,14 @@ use mathlib.Core.List.{List}
 use lib.ListN.{drop, length}
 use Rattle.base.specs.Pick.{pick}
 use Rattle.format.specs.Layout.{plainLength, markedLength}
-use Rattle.format.specs.Answer.{firstCountMissing, countCheckWrong, countFieldsWrong, spanTooShort, keyWrong, dataWrong}
+use Rattle.format.specs.Answer.{firstCountMissing, countCheckWrong, countFieldsWrong, spanTooShort}
 use Rattle.format.specs.Judged.{Judged, good, then, require}
 use Rattle.format.specs.Opening.{startsWith, plainOpening}
 use Rattle.format.specs.Address.{Address}
 use Rattle.format.specs.Home.{Home}
 use Rattle.format.specs.Count.{Settled, unsettled, settled, countFlag, countAddress, countNumber, countFits, countClosed, countFieldsRight}
-use Rattle.format.specs.Block.{keyOffset, dataOffset, blocksFit, keyRight, dataRight, keyInfo, dataInfo}
+use Rattle.format.specs.Block.{keyInfo, dataInfo}
+use Rattle.format.specs.Blocks.{blocksAt, judgeFit}
 use lib.Dec.{leb}
 
 -- A sector: what its count says, and the information of its key and its data block.
@@ -66,10 +67,11 @@ judgeCount h i x p r =
 -- Its blocks, where `last` says that the span runs to index: 9 for them and the least gap, then 10, then 11.
 unfoldable pub readBlocks : Bool → ℕ → Bool → List ℕ → Judged Sector
 readBlocks first p last r =
-    require (blocksFit last r) (spanTooShort p)
-    (require (keyRight r) (keyWrong (p + openingLength first + keyOffset))
-    (require (dataRight r) (dataWrong (p + openingLength first + dataOffset r))
-    (good (sectorIn first r))))
+    let b = blocksAt (p + openingLength first) r in
+    then (judgeFit p last r) (λ _.
+    then (b .key) (λ _.
+    then (b .body) (λ _.
+    good (sectorIn first r))))
 
 -- The sector in position i and at place p by what follows its count's opening: its count, then its blocks.
 unfoldable pub judgeSector : Home → ℕ → Settled → ℕ → Bool → List ℕ → Judged Sector

@@ -3,7 +3,7 @@ use Prim.Native.Nat.{ℕ, _+_, _-_, _/_, _%_}
 use mathlib.Core.Bool.{Bool, true}
 use mathlib.Core.List.{List, [], _∷_, _++_}
 use lib.ListN.{length, replicate}
-use lib.Dec.{leb}
+use lib.Dec.{leb, eqb}
 use Rattle.base.specs.Pick.{pick}
 use Rattle.format.specs.Layout.{gapLength}
 use Rattle.format.specs.Answer.{Answer, done, roomMissing}
@@ -11,7 +11,7 @@ use Rattle.format.specs.Judged.{Judged, good, refused, then, require}
 use Rattle.format.specs.Lent.{bytesOf, marksOf}
 use Rattle.format.specs.Opening.{plainOpening, markedOpening, closing}
 use Rattle.format.specs.Address.{addressBytes}
-use Rattle.format.specs.Block.{keyOffset, keySize, dataSize, leastGap}
+use Rattle.format.specs.Block.{keyOffset, keySize, leastGap}
 use Rattle.format.specs.Span.{joined, none}
 use Rattle.format.specs.Sector.{Sector, openingLength}
 
@@ -44,6 +44,10 @@ writtenKey xs = pick (none xs) [] (innerGap ++ writtenBlock xs)
 -- The data block; if DL = 0 the opening and one 00.
 unfoldable pub writtenData : List ℕ → List ℕ
 writtenData xs = pick (none xs) (plainOpening ++ 0x00 ∷ []) (writtenBlock xs)
+
+-- What a written data block of n bytes takes: opening, information, check and closing byte; if n = 0 the opening and one 00.
+unfoldable pub dataSize : ℕ → ℕ
+dataSize n = pick (eqb n 0) 7 (n + 9)
 
 -- The opening of a count.
 unfoldable pub countOpening : Bool → List ℕ

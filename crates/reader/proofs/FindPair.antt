@@ -20,7 +20,8 @@ use Rattle.format.specs.Count.{unsettled}
 use Rattle.format.specs.Span.{afterOpening}
 use Rattle.format.specs.Sector.{judgeCount}
 use Rattle.format.specs.Accept.{Accepted, accept}
-use Rattle.format.specs.Find.{Wanted, find}
+use Rattle.format.specs.Find.{find}
+use Rattle.format.specs.Blocks.{Wanted}
 use Rattle.format.specs.PairFind.{ofFirst, ofSecond, fromFirstCount, namedTrack, judgeFirstCount, judgeFirst, pairAgrees, findOnSecond, findByFlag, pairFind}
 use Rattle.base.proofs.Tests.{and-right, eqb-comm}
 use Rattle.accepting.proofs.AcceptAnswers.{count-zero}

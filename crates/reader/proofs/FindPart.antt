@@ -13,15 +13,17 @@ use Rattle.format.specs.Judged.{Judged, good, refused}
 use Rattle.format.specs.Lent.{lentForReading, cells}
 use Rattle.format.specs.Home.{findHome}
 use Rattle.format.specs.Count.{countNumber, keyLength, dataLength}
-use Rattle.format.specs.Block.{blocksFit, keyRight, dataRight}
+use Rattle.format.specs.Block.{blocksFit, keyRight, dataRight, keyOffset, dataOffset}
 use Rattle.format.specs.Sector.{openingLength}
 use Rattle.format.specs.Candidate.{Candidate, candidates}
-use Rattle.format.specs.Find.{Wanted, theKey, theData, Part, partAt, carrying, only, keyPlace, dataPlace, wantedPart, candidatePart, findCells, find}
-use Rattle.format.proofs.Find.FindParts.{offsetOf, lengthOf, block-fits}
+use Rattle.format.specs.Find.{carrying, only, candidatePart, findCells, find}
+use Rattle.format.specs.Blocks.{Wanted, theKey, theData, Part, partAt, blocksAt, judgeFit}
+use Rattle.format.proofs.Sector.BlocksJudged.{offsetOf, lengthOf, block-fits}
 use Rattle.reader.specs.Finding.{asCandidate, asPart}
 use Rattle.reader.specs.declared.candidate.Candidate.{Candidate as CandidateCode}
 use Rattle.reader.specs.declared.finding.Part.{Part as PartCode}
 use Rattle.reader.proofs.CandidateNext.{candidatesAt, carrying-first, none-first}
+use Rattle.format.proofs.Find.FindParts.{behindCount}
 
 -- A candidate that carries s is kept,
 pub carrying-here : (s : ℕ) (x : Candidate) (ys : List Candidate) → countNumber (x .rest) ≡ s → carrying s (x ∷ ys) ≡ x ∷ carrying s ys
@@ -62,26 +64,26 @@ module _ (s : ℕ) (w : Wanted) (c : List ℕ) (h : Judged ℕ) (f : h ≡ findH
 module _ (x : Candidate) where
   -- Its blocks do not fit.
   pub part-short : (w : Wanted) → blocksFit (x .last) (x .rest) ≡ false → candidatePart w x ≡ refused (spanTooShort (x .place))
-  unfolding candidatePart
+  unfolding candidatePart judgeFit
   part-short w f = rw f
 
   module _ (f : blocksFit (x .last) (x .rest) ≡ true) where
     -- The key is right, or not.
-    pub key-found : keyRight (x .rest) ≡ true → candidatePart theKey x ≡ good (partAt (keyPlace x + 6) (keyLength (x .rest)))
-    unfolding candidatePart wantedPart
+    pub key-found : keyRight (x .rest) ≡ true → candidatePart theKey x ≡ good (partAt (behindCount x + keyOffset + 6) (keyLength (x .rest)))
+    unfolding candidatePart judgeFit blocksAt
     key-found e = rw (f, e)
 
-    pub key-refused : keyRight (x .rest) ≡ false → candidatePart theKey x ≡ refused (keyWrong (keyPlace x))
-    unfolding candidatePart wantedPart
+    pub key-refused : keyRight (x .rest) ≡ false → candidatePart theKey x ≡ refused (keyWrong (behindCount x + keyOffset))
+    unfolding candidatePart judgeFit blocksAt
     key-refused e = rw (f, e)
 
     -- The data block is right, or not.
-    pub data-found : dataRight (x .rest) ≡ true → candidatePart theData x ≡ good (partAt (dataPlace x + 6) (dataLength (x .rest)))
-    unfolding candidatePart wantedPart
+    pub data-found : dataRight (x .rest) ≡ true → candidatePart theData x ≡ good (partAt (behindCount x + dataOffset (x .rest) + 6) (dataLength (x .rest)))
+    unfolding candidatePart judgeFit blocksAt
     data-found e = rw (f, e)
 
-    pub data-refused : dataRight (x .rest) ≡ false → candidatePart theData x ≡ refused (dataWrong (dataPlace x))
-    unfolding candidatePart wantedPart
+    pub data-refused : dataRight (x .rest) ≡ false → candidatePart theData x ≡ refused (dataWrong (behindCount x + dataOffset (x .rest)))
+    unfolding candidatePart judgeFit blocksAt
     data-refused e = rw (f, e)
 
 -- The block asked for of a candidate, with its check and closing byte, lies within the track.

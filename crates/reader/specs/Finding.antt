@@ -9,7 +9,8 @@ use Rattle.format.specs.Judged.{Judged, good, refused}
 use Rattle.format.specs.Sector.{openingLength}
 use Rattle.format.specs.Candidate.{Candidate, firstOpensAt, candidateAt, countPasses, standsAt}
 use Rattle.format.specs.Walk.{Visited}
-use Rattle.format.specs.Find.{Wanted, theKey, theData, Part, partOf}
+use Rattle.format.specs.Find.{partOf}
+use Rattle.format.specs.Blocks.{Wanted, theKey, theData, Part}
 use Rattle.reader.specs.declared.candidate.Candidate.{Candidate as CandidateCode}
 use Rattle.reader.specs.declared.candidate.Standing.{Standing}
 use Rattle.reader.specs.declared.candidate.Standing.the-variants.{Stands, Not}

@@ -3,7 +3,8 @@ use mathlib.Core.Path.{refl, subst}
 use Prim.Native.Nat.{ℕ, _≤_}
 use mathlib.Core.List.{List}
 use Rattle.format.specs.Written.{Pair, gapOne}
-use Rattle.format.specs.Find.{Wanted, theKey, theData, contentOf}
+use Rattle.format.specs.Find.{contentOf}
+use Rattle.format.specs.Blocks.{Wanted, theKey, theData}
 use Rattle.format.proofs.Find.FindAccepted.{find-content}
 use Rattle.format.proofs.Correct.PairOrders.{gapOne-least}
 use Rattle.bitcells.specs.ToCells.{writtenCells}

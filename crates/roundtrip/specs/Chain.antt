@@ -13,7 +13,8 @@ use Rattle.format.specs.Written.{Pair}
 use Rattle.format.specs.Blank.{blank}
 use Rattle.format.specs.Add.{add}
 use Rattle.format.specs.Correct.{correct}
-use Rattle.format.specs.Find.{Wanted, theKey, theData, Part, partOf, find, contentOf}
+use Rattle.format.specs.Find.{partOf, find, contentOf}
+use Rattle.format.specs.Blocks.{Wanted, theKey, theData, Part}
 use Rattle.base.specs.Lists.{Member}
 use Rattle.bitcells.specs.FromCells.{fromCells}
 use Rattle.bitcells.specs.ToCells.{toCells}

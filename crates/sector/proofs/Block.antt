@@ -1,30 +1,20 @@
--- Key and data block by tests: bounds of their offsets, and each way that a test goes.
+-- Key and data block by tests: each way that a test goes.
 use mathlib.Core.Path.{_≡_, refl, sym, ap, _∙_}
 use Prim.Native.Nat.{ℕ, _+_, _-_, _≤_, _<_}
 use native.Mathlib.Omega.{arith}
 use mathlib.Core.Bool.{Bool, true, false, _&&_}
 use mathlib.Core.List.{List, [], _∷_, _++_}
-use lib.ListN.{length, getD, take, drop, length-drop}
+use lib.ListN.{length, take, drop, length-drop}
 use lib.Dec.{eqb}
-use borrow.Author.Tests.{eq-eqb, ne-eqb, eqb-true}
+use borrow.Author.Tests.{eq-eqb, ne-eqb}
 use Rattle.format.specs.Opening.{startsWith, plainOpening, closedAfter}
 use Rattle.format.specs.Count.{keyLength, dataLength}
-use Rattle.format.specs.Block.{keySize, dataSize, dataOffset, blockEnd, leastGap, blockRight, keyRight, dataRight}
+use Rattle.format.specs.Block.{dataOffset, leastGap, blockRight, keyRight, dataRight}
 use Rattle.format.specs.Sector.{openingLength}
 use Rattle.base.proofs.Tests.{cases}
 use Rattle.base.proofs.Lists.{part-all}
 use Rattle.format.proofs.Cells.Opening.{starts-short}
 use Rattle.sector.proofs.Opening.{empty-short}
-
--- A key takes at most 20 bytes beside its own.
-key-size-le : (n : ℕ) → keySize n ≤ n + 20
-unfolding keySize
-key-size-le n = cases (eqb n 0) (λ e. rw e (omega arith)) (λ e. rw e (omega arith))
-
--- A data block takes at most 9 bytes beside its own.
-data-size-le : (n : ℕ) → dataSize n ≤ n + 9
-unfolding dataSize
-data-size-le n = cases (eqb n 0) (λ e. let h : n ≡ 0 = eqb-true n 0 e in rw e (omega arith)) (λ e. rw e (omega arith))
 
 -- The opening of a count has at most 8 bytes.
 pub opening-le : (first : Bool) → openingLength first ≤ 8
@@ -36,17 +26,6 @@ pub gap-le : (last : Bool) → leastGap last ≤ 21
 unfolding leastGap
 gap-le true = omega arith
 gap-le false = omega arith
-
-module _ (r : List ℕ) where
-  -- The data block opens within the first 299 bytes.
-  pub offset-lt : getD r 6 0 < 256 → dataOffset r < 299
-  unfolding dataOffset
-  offset-lt h = omega (arith, key-size-le (getD r 6 0))
-
-  -- It ends within 65,844 bytes.
-  pub end-lt : getD r 6 0 < 256 → getD r 7 0 < 256 → getD r 8 0 < 256 → blockEnd r < 65844
-  unfolding blockEnd
-  end-lt h k l = omega (arith, offset-lt h, data-size-le (dataLength r))
 
 -- A block is one that opens and is closed.
 pub block-plain : (n : ℕ) (c : List ℕ) → startsWith plainOpening c ≡ true → closedAfter n (take (length c - 6) (drop 6 c)) ≡ blockRight n c

@@ -1,27 +1,30 @@
 -- What stepping over a sector of an accepted track tells of it.
-use mathlib.Core.Path.{_≡_, refl, sym, ap, ap₂, _∙_}
+use mathlib.Core.Path.{_≡_, refl, sym, ap, _∙_}
 use Prim.Native.Nat.{ℕ, _+_, _≤_, _<_}
 use native.Mathlib.Omega.{arith}
 use mathlib.Core.Bool.{Bool, true}
-use mathlib.Core.List.{List, []}
+use mathlib.Core.List.{List}
 use lib.ListN.{length, take, drop}
 use lib.Seq.{drop-drop}
 use lib.Dec.{eqb}
-use borrow.Author.Tests.{leb-true, eqb-true}
+use borrow.Author.Tests.{eqb-true}
 use Rattle.base.specs.Pick.{pick}
 use Rattle.format.specs.Lent.{cells}
 use Rattle.format.specs.Count.{countAddress, keyLength, dataLength}
-use Rattle.format.specs.Block.{keyOffset, keySize, dataSize, dataOffset, blockEnd, leastGap, blocksFit, blockInfo, keyInfo, dataInfo}
+use Rattle.format.specs.Block.{keySize, dataOffset, blockEnd, leastGap, blocksFit, blockInfo, keyInfo, dataInfo}
+use Rattle.format.specs.Written.{dataSize}
 use Rattle.format.specs.Span.{runsToIndex, spanLength, afterOpening}
 use Rattle.format.specs.Sector.{Sector, openingLength, sectorIn}
 use Rattle.format.specs.Accept.{Placed, endOf}
 use Rattle.format.specs.Listing.{Listed, listed}
 use Rattle.base.proofs.Tests.{cases}
-use Rattle.format.proofs.Sector.Sizes.{key-size-least, data-size-least, gap-least}
+use Rattle.format.proofs.Sector.Sizes.{gap-least}
+use Rattle.format.proofs.Sector.BlockEnd.{offset-is, key-in-offset, data-in-end, written-in-end, end-in-span}
 use Rattle.format.proofs.Sector.ReadSector.{fit-key, fit-data}
 use Rattle.format.proofs.Sector.Standing.{FitsCount}
 use Rattle.sectors.specs.Stepped.{Stepped, steppedIn, restAt, steppedAt, addressAt}
 use Rattle.sectors.proofs.Rest.{opening-least, after-place, stepped-here}
+use Rattle.format.specs.Blocks.{blocksAt}
 
 -- The sector x stands at place p of the track t with the marks m, and `last` says that its span runs to index.
 pub record Stepping (t m : List ℕ) (p : ℕ) (first : Bool) (x : Placed) (last : Bool) : Type 0 where
@@ -46,7 +49,8 @@ pub record Stepping (t m : List ℕ) (p : ℕ) (first : Bool) (x : Placed) (last
   pub fits : FitsCount (x .sector)
   pub key-inside : listed x .keyPlace + length (x .sector .keyBytes) ≤ listed x .dataPlace
   pub data-inside : listed x .dataPlace + length (x .sector .dataBytes) < endOf x
-  pub end-size : endOf x ≡ p + openingLength first + 23 + keySize (length (x .sector .keyBytes)) + dataSize (length (x .sector .dataBytes))
+  -- The sector takes no less than its written form.
+  pub end-size : p + openingLength first + 23 + keySize (length (x .sector .keyBytes)) + dataSize (length (x .sector .dataBytes)) ≤ endOf x
   pub gap-inside : endOf x + leastGap last ≤ p + length (x .span)
   pub end-inside : endOf x + 13 ≤ p + length (x .span)
   pub span-least : 49 ≤ length (x .span)
@@ -71,13 +75,8 @@ module _ (t m : List ℕ) (first : Bool) (p : ℕ) (g : List ℕ) (last : Bool) 
   step-is : steppedAt first p (cells t m) ≡ steppedIn (p + o) (p + length g) last r
   step-is = sym (stepped-here t m first p o (length g) refl (sym size) low last (sym runs) r (sym rest-is))
 
-  blocks-inside : dataOffset r + dataSize (dataLength r) + leastGap last ≤ length r
-  unfolding blocksFit blockEnd
-  blocks-inside = leb-true _ (length r) fit
-
-  offset-is : dataOffset r ≡ 23 + keySize (keyLength r)
-  unfolding dataOffset
-  offset-is = refl
+  blocks-inside : blockEnd r + leastGap last ≤ length r
+  blocks-inside = end-in-span r last fit
 
   -- A place in what follows the opening is one in the track.
   bytes-at : (i n : ℕ) → i + n ≤ length r → take n (drop (p + o + i) t) ≡ take n (drop i r)
@@ -91,7 +90,7 @@ module _ (t m : List ℕ) (first : Bool) (p : ℕ) (g : List ℕ) (last : Bool) 
       (λ e. let z : keyLength r ≡ 0 = eqb-true (keyLength r) 0 e in rw (fit-key last r fit, z))
       (λ e.
       let n : ℕ = keyLength r in
-      let l : 29 + n ≤ length r = omega (arith, blocks-inside, offset-is, key-size-least n, data-size-least (dataLength r), gap-least last) in
+      let l : 29 + n ≤ length r = omega (arith, blocks-inside, key-in-offset r, data-in-end r) in
       let q : p + o + 23 + 6 ≡ p + o + 29 = omega arith in
       rw (fit-key last r fit, e, q) (bytes-at 29 n l ∙ ap (take n) (sym (drop-drop 6 23 r))))
 
@@ -100,7 +99,7 @@ module _ (t m : List ℕ) (first : Bool) (p : ℕ) (g : List ℕ) (last : Bool) 
   data-there =
       let n : ℕ = dataLength r in
       let k : ℕ = dataOffset r in
-      let l : k + 6 + n ≤ length r = omega (arith, blocks-inside, data-size-least n, gap-least last) in
+      let l : k + 6 + n ≤ length r = omega (arith, blocks-inside, data-in-end r) in
       let q : p + o + k + 6 ≡ p + o + (k + 6) = omega arith in
       rw (fit-data last r fit, q) (bytes-at (k + 6) n l ∙ ap (take n) (sym (drop-drop 6 k r)))
 
@@ -122,21 +121,17 @@ module _ (t m : List ℕ) (first : Bool) (p : ℕ) (g : List ℕ) (last : Bool) 
 
   data-place-here : listed shown .dataPlace ≡ p + o + dataOffset r + 6
   unfolding listed sectorIn
-  data-place-here = ap (λ (n : ℕ). p + o + 23 + 6 + keySize n) key-length-here ∙ omega (arith, offset-is)
+  data-place-here = ap (λ (n : ℕ). p + o + 23 + 6 + keySize n) key-length-here ∙ omega (arith, offset-is r)
 
-  end-here : endOf shown ≡ p + o + dataOffset r + dataSize (dataLength r)
-  unfolding endOf sectorIn blockEnd
-  end-here = ap (λ (xs : List ℕ). p + o + (dataOffset xs + dataSize (dataLength xs))) behind ∙ omega arith
-
-  end-stepped : p + o + blockEnd r ≡ endOf shown
-  unfolding endOf sectorIn
-  end-stepped = ap (λ (xs : List ℕ). p + o + blockEnd xs) (sym behind)
+  end-here : endOf shown ≡ p + o + blockEnd r
+  unfolding endOf blocksAt sectorIn
+  end-here = ap (λ (xs : List ℕ). p + o + blockEnd xs) behind
 
   key-below : listed shown .keyPlace + keyLength r ≤ p + o + dataOffset r + 6
   key-below =
       cases (eqb (keyLength r) 0)
       (λ e. omega (arith, eqb-true (keyLength r) 0 e, rw e at key-place-here))
-      (λ e. omega (arith, offset-is, key-size-least (keyLength r), rw e at key-place-here))
+      (λ e. omega (arith, key-in-offset r, rw e at key-place-here))
 
   key-shown : take (length (shown .sector .keyBytes)) (drop (listed shown .keyPlace) t) ≡ shown .sector .keyBytes
   unfolding sectorIn
@@ -150,9 +145,11 @@ module _ (t m : List ℕ) (first : Bool) (p : ℕ) (g : List ℕ) (last : Bool) 
   unfolding addressAt sectorIn
   address-here = ap countAddress rest-is
 
-  end-sizes : endOf shown ≡ p + o + 23 + keySize (length (shown .sector .keyBytes)) + dataSize (length (shown .sector .dataBytes))
+  end-sizes : p + o + 23 + keySize (length (shown .sector .keyBytes)) + dataSize (length (shown .sector .dataBytes)) ≤ endOf shown
   end-sizes =
-      end-here ∙ omega (arith, offset-is) ∙ ap₂ (λ (n k : ℕ). p + o + 23 + keySize n + dataSize k) (sym key-length-here) (sym data-length-here)
+      let k = ap keySize key-length-here in
+      let d = ap dataSize data-length-here in
+      omega (arith, k, d, end-here, offset-is r, written-in-end r)
 
   -- Then the sector that it shows stands there.
   pub stepping-made : Stepping t m p first (shownBy first p g r) last
@@ -168,17 +165,17 @@ module _ (t m : List ℕ) (first : Bool) (p : ℕ) (g : List ℕ) (last : Bool) 
         data-length-is = ap (λ (z : Stepped). z .dataLength) step-is ∙ sym data-length-here;
         key-place-is = ap (λ (z : Stepped). z .keyPlace) step-is ∙ sym key-place-here;
         data-place-is = ap (λ (z : Stepped). z .dataPlace) step-is ∙ sym data-place-here;
-        end-is = ap (λ (z : Stepped). z .end) step-is ∙ end-stepped;
+        end-is = ap (λ (z : Stepped). z .end) step-is ∙ sym end-here;
         next-is = ap (λ (z : Stepped). z .next) step-is;
         last-is = ap (λ (z : Stepped). z .last) step-is;
         key-bytes = key-shown;
         data-bytes = data-shown;
         fits = numbers;
         key-inside = omega (arith, key-length-here, data-place-here, key-below);
-        data-inside = omega (arith, data-length-here, data-place-here, end-here, data-size-least (dataLength r));
+        data-inside = omega (arith, data-length-here, data-place-here, end-here, data-in-end r);
         end-size = end-sizes;
         gap-inside = omega (arith, end-here, blocks-inside, long);
         end-inside = omega (arith, end-here, blocks-inside, long, gap-least last);
-        span-least = omega (arith, opening-least first, blocks-inside, long, gap-least last, offset-is, data-size-least (dataLength r));
+        span-least = omega (arith, opening-least first, blocks-inside, long, gap-least last, key-in-offset r, data-in-end r);
         span-inside = inside;
       }

@@ -4,7 +4,7 @@ use Prim.Native.Nat.{ℕ}
 use borrow.Author.Tests.{eq-eqb, ne-eqb}
 use Rattle.format.specs.Answer.{wantedWrong}
 use Rattle.format.specs.Judged.{good, refused}
-use Rattle.format.specs.Find.{theKey, theData}
+use Rattle.format.specs.Blocks.{theKey, theData}
 use Rattle.station.specs.Packed.{wantedBy}
 
 -- 0 asks for the key.

@@ -6,27 +6,28 @@ use mathlib.Core.Bool.{Bool, true}
 use mathlib.Core.List.{List, [], _∷_}
 use lib.ListN.{length, getD, length-append, length-drop}
 use lib.Dec.{leb, eqb}
-use Rattle.format.specs.Answer.{Answer, lentWrong, spanTooShort, firstCountMissing, keyWrong, dataWrong}
+use Rattle.format.specs.Answer.{Answer, lentWrong, firstCountMissing}
 use Rattle.format.specs.Judged.{Judged, good, refused, then, require}
 use Rattle.format.specs.Lent.{lentForReading, cells, unmarked}
 use Rattle.format.specs.Opening.{startsWith, plainOpening}
 use Rattle.format.specs.Flag.{condition}
 use Rattle.format.specs.Home.{Home, findHome, judgeHome, firstCountPlace}
 use Rattle.format.specs.Count.{unsettled, countNumber, keyLength, dataLength}
-use Rattle.format.specs.Block.{blocksFit, keyRight, dataRight}
+use Rattle.format.specs.Block.{blocksFit}
 use Rattle.format.specs.Span.{afterOpening}
 use Rattle.format.specs.Sector.{openingLength, judgeCount}
 use Rattle.format.specs.Accept.{Accepted, accept}
 use Rattle.format.specs.Candidate.{Candidate, firstOpensAt, candidateAt, standsAt, candidatesFrom, candidates}
-use Rattle.format.specs.Find.{Wanted, theKey, theData, Part, partAt, carrying, only, keyPlace, dataPlace, wantedPart, candidatePart, findCells, find}
+use Rattle.format.specs.Find.{carrying, only, candidatePart, findCells, find}
+use Rattle.format.specs.Blocks.{Wanted, Part, partAt, wantedPart, blocksAt, judgeFit}
 use Rattle.format.specs.Walk.{Visited, visited, nextFrom, step}
 use Rattle.format.specs.PairFind.{Paired, fromFirstCount, judgeFirstCount, judgeFirst, pairAgrees, findOnSecond, findByFlag, pairFind}
 use Rattle.base.proofs.Tests.{cases}
 use Rattle.format.proofs.Cells.Opening.{unmarked-at}
 use Rattle.format.proofs.Track.HomeLocal.{home-window}
 use Rattle.format.proofs.Find.CandidateBytes.{after-front}
-use Rattle.format.proofs.Find.FindParts.{block-fits}
-use Rattle.station.proofs.Places.{Row, Within, within-then, within-require, cells-few, home-within, count-within, accept-within}
+use Rattle.format.proofs.Sector.BlocksJudged.{block-fits, offsetOf, lengthOf, rightOf, wrongAt, wrong-row, partIn, part-judged, fit-good}
+use Rattle.station.proofs.Places.{Row, Within, within-then, within-require, cells-few, home-within, count-within, accept-within, fit-within}
 
 -- A candidate that lies within 4,002 cells and has bytes for its fields.
 record Small (x : Candidate) : Type 0 where
@@ -79,29 +80,35 @@ Inside (refused a) = Row a
 inside-require : (b : Bool) (a : Answer) (j : Judged Part) → Row a → (b ≡ true → Inside j) → Inside (require b a j)
 inside-require b a j h f = cases b (λ e. rw e (f e)) (λ e. rw e h)
 
+-- What follows a judgement that answers so.
+inside-then : {A : Type 0} (j : Judged A) (k : A → Judged Part) → Within j → ((x : A) → j ≡ good x → Inside (k x)) → Inside (then j k)
+inside-then (good x) k h f = f x refl
+inside-then (refused a) k h f = h
+
 -- A part of n bytes from place p on, or an empty one.
 part-inside : (p n : ℕ) → p + n ≤ 4002 → Inside (good (partAt p n))
 unfolding partAt
 part-inside p n l = cases (eqb n 0) (λ e. rw e (omega arith)) (λ e. rw e l)
 
 -- The part asked for of a candidate.
-wanted-inside : (w : Wanted) (x : Candidate) → Small x → blocksFit (x .last) (x .rest) ≡ true → Inside (wantedPart w x)
-unfolding wantedPart
-wanted-inside theKey x a f =
-    let b = block-fits theKey (x .last) (x .rest) f in
+wanted-inside : (w : Wanted) (x : Candidate) → Small x → blocksFit (x .last) (x .rest) ≡ true → Inside (wantedPart w (blocksAt (x .place + openingLength (x .first)) (x .rest)))
+wanted-inside w x a f =
+    let r : List ℕ = x .rest in
+    let q : ℕ = x .place + openingLength (x .first) in
+    let b = block-fits w (x .last) r f in
     let l = a .rest-few (omega arith) in
-    inside-require (keyRight (x .rest)) (keyWrong (keyPlace x)) _ (omega arith, omega arith) (λ _. part-inside (keyPlace x + 6) (keyLength (x .rest)) (omega arith))
-wanted-inside theData x a f =
-    let b = block-fits theData (x .last) (x .rest) f in
-    let l = a .rest-few (omega arith) in
-    inside-require (dataRight (x .rest)) (dataWrong (dataPlace x)) _ (omega arith, omega arith) (λ _. part-inside (dataPlace x + 6) (dataLength (x .rest)) (omega arith))
+    let n = wrong-row w (q + offsetOf w r) in
+    rw (part-judged w q r)
+    (inside-require (rightOf w r) (wrongAt w (q + offsetOf w r)) (good (partIn w q r)) (n .1, omega (arith, n .2)) (λ _. part-inside (q + offsetOf w r + 6) (lengthOf w r) (omega arith)))
 
 -- The part asked for of the only candidate.
 only-inside : (w : Wanted) (xs : List Candidate) → AllSmall xs
     → Inside (then (only xs) (candidatePart w))
 unfolding only candidatePart
 only-inside w [] a = (omega arith, omega arith)
-only-inside w (x ∷ []) a = inside-require (blocksFit (x .last) (x .rest)) (spanTooShort (x .place)) _ (omega arith, a .0 .place-few) (wanted-inside w x (a .0))
+only-inside w (x ∷ []) a =
+    inside-then (judgeFit (x .place) (x .last) (x .rest)) _ (fit-within (x .place) (x .last) (x .rest) (a .0 .place-few)) (λ u f.
+    wanted-inside w x (a .0) (fit-good (x .place) (x .last) (x .rest) u f))
 only-inside w (x ∷ y ∷ r) a = (omega arith, a .1 .0 .place-few)
 
 -- Find gives no start, size or place beyond 4,002.

@@ -7,23 +7,23 @@ use mathlib.Core.List.{List, [], _∷_}
 use lib.ListN.{length, drop, length-append, length-drop}
 use lib.Dec.{leb}
 use borrow.Author.Tests.{leb-true}
-use Rattle.format.specs.Answer.{Answer, lentWrong, homeCheckWrong, homeFieldsWrong, firstCountMissing, countCheckWrong, countFieldsWrong, spanTooShort, keyWrong, dataWrong, sectorRepeated}
+use Rattle.format.specs.Answer.{Answer, lentWrong, homeCheckWrong, homeFieldsWrong, firstCountMissing, countCheckWrong, countFieldsWrong, spanTooShort, sectorRepeated}
 use Rattle.format.specs.Judged.{Judged, good, refused, then, require, answerOf}
 use Rattle.format.specs.Lent.{lengthRight, lentForReading, cells}
 use Rattle.format.specs.Opening.{startsWith, plainOpening, closedAfter}
 use Rattle.format.specs.Home.{Home, homeFrom, findHome, homeBytes, homeOf, homeFieldsRight, judgeHomeOf, judgeHome, firstCountPlace}
 use Rattle.format.specs.Count.{Settled, unsettled, countFits, countClosed, countFieldsRight}
-use Rattle.format.specs.Block.{keyOffset, dataOffset, blocksFit, keyRight, dataRight}
+use Rattle.format.specs.Block.{blocksFit}
 use Rattle.format.specs.Span.{joined, none, spans}
 use Rattle.format.specs.Sector.{Sector, openingLength, settle, judgeCount, readBlocks, judgeSector, readSpan}
 use Rattle.format.specs.Accept.{judgeMarks, readSpans, placedFrom, among, judgeNumbers, spansOf, firstCountEnd, judgeBehind, acceptCells, accept}
-use Rattle.format.specs.Find.{theKey, theData}
+use Rattle.format.specs.Blocks.{theKey, theData, Wanted, blocksAt, wantedPart, judgeFit}
 use Rattle.base.proofs.Tests.{cases, and-both}
 use Rattle.format.proofs.Track.HomeLocal.{found-window, home-window}
 use Rattle.format.proofs.Spans.StrayMark.{marks-stray}
 use Rattle.format.proofs.Spans.Cutting.{joined-spans}
 use Rattle.format.proofs.Track.Pairs.{lent-length}
-use Rattle.format.proofs.Find.FindParts.{block-fits}
+use Rattle.format.proofs.Sector.BlocksJudged.{block-fits, offsetOf, rightOf, wrongAt, wrong-row, partIn, part-judged, fit-good}
 
 -- An answer of the table whose place is 4,002 at most.
 abbrev pub Row : Answer → Type 0
@@ -82,16 +82,27 @@ count-within h i x p r l =
     within-require (countClosed r) (countCheckWrong p) _ (omega arith, l) (λ _.
     within-require (countFieldsRight h i x r) (countFieldsWrong p) _ (omega arith, l) (λ _. (omega arith, omega arith))))
 
+-- A block asked for that opens within 4,002.
+pub part-within : (w : Wanted) (q : ℕ) (r : List ℕ) → q + offsetOf w r ≤ 4002 → Within (wantedPart w (blocksAt q r))
+part-within w q r l =
+    let n = wrong-row w (q + offsetOf w r) in
+    rw (part-judged w q r) (within-require (rightOf w r) (wrongAt w (q + offsetOf w r)) (good (partIn w q r)) (n .1, omega (arith, n .2)) (λ _. (omega arith, omega arith)))
+
+-- The blocks of a count at place p.
+pub fit-within : (p : ℕ) (last : Bool) (r : List ℕ) → p ≤ 4002 → Within (judgeFit p last r)
+unfolding judgeFit
+fit-within p last r l = within-require (blocksFit last r) (spanTooShort p) (good tt) (omega arith, l) (λ _. (omega arith, omega arith))
+
 -- Its blocks, which open in what follows its opening.
 blocks-within : (first : Bool) (p : ℕ) (last : Bool) (r : List ℕ) → p ≤ 4002 → (1 ≤ length r → p + openingLength first + length r ≤ 4002) → Within (readBlocks first p last r)
 unfolding readBlocks
 blocks-within first p last r k l =
-    within-require (blocksFit last r) (spanTooShort p) _ (omega arith, k) (λ f.
-    let a = block-fits theKey last r f in
-    let b = block-fits theData last r f in
-    let m = l (omega (arith, a)) in
-    within-require (keyRight r) (keyWrong (p + openingLength first + keyOffset)) _ (omega arith, omega arith) (λ _.
-    within-require (dataRight r) (dataWrong (p + openingLength first + dataOffset r)) _ (omega arith, omega arith) (λ _. (omega arith, omega arith))))
+    let q : ℕ = p + openingLength first in
+    within-then (judgeFit p last r) _ (fit-within p last r k) (λ u f.
+    let b : (w : Wanted) → Within (wantedPart w (blocksAt q r)) =
+    λ w. let a = block-fits w last r (fit-good p last r u f) in part-within w q r (omega (arith, a, l (omega (arith, a)))) in
+    within-then (blocksAt q r .key) _ (b theKey) (λ _ _.
+    within-then (blocksAt q r .body) _ (b theData) (λ _ _. (omega arith, omega arith))))
 
 -- A sector in its span.
 span-within : (h : Home) (i : ℕ) (x : Settled) (p : ℕ) (last : Bool) (g : List ℕ) → p + length g ≤ 4002 → Within (readSpan h i x p last g)

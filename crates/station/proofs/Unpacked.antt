@@ -6,7 +6,8 @@ use mathlib.Core.List.{List}
 use Rattle.format.specs.Answer.{Answer, wantedWrong}
 use Rattle.format.specs.Judged.{Judged, good, refused, answerOf}
 use Rattle.format.specs.Accept.{accept}
-use Rattle.format.specs.Find.{Wanted, Part, find}
+use Rattle.format.specs.Find.{find}
+use Rattle.format.specs.Blocks.{Wanted, Part}
 use Rattle.format.specs.Walk.{Visited, step}
 use Rattle.format.specs.PairFind.{ofFirst, pairFind}
 use Rattle.station.specs.Packed.{packedAnswer, packedBounds, packedPart, packedPaired, packedVisited, packedVisit}

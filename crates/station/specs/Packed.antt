@@ -5,7 +5,7 @@ use lib.Dec.{eqb}
 use Rattle.base.specs.Pick.{pick}
 use Rattle.format.specs.Answer.{Answer, wantedWrong}
 use Rattle.format.specs.Judged.{Judged, good, refused}
-use Rattle.format.specs.Find.{Wanted, theKey, theData, Part}
+use Rattle.format.specs.Blocks.{Wanted, theKey, theData, Part}
 use Rattle.format.specs.Walk.{Visited}
 use Rattle.format.specs.Written.{After}
 use Rattle.format.specs.PairFind.{Paired, ofFirst, pairFind}

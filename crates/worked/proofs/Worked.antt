@@ -13,16 +13,17 @@ use Rattle.format.specs.Flag.{homeFlagRight, sequenceRight, countFlagRight, nam
 use Rattle.format.specs.Address.{addressIn, addressBytes, addressInRange, sameAddress, addressRight}
 use Rattle.format.specs.Home.{homeFrom, findHome, homeBytes, homeOf, homeFieldsRight, judgeHomeOf, judgeHome}
 use Rattle.format.specs.Count.{countFits, countClosed, countAddressRight, countFieldsRight}
-use Rattle.format.specs.Block.{keySize, dataSize, dataOffset, blockEnd, leastGap, blocksFit, blockRight, blockInfo, keyRight, dataRight, keyInfo, dataInfo}
+use Rattle.format.specs.Block.{keySize, dataOffset, blockEnd, leastGap, blocksFit, blockRight, blockInfo, keyRight, dataRight, keyInfo, dataInfo}
+use Rattle.format.specs.Written.{dataSize, gapOne, countInfo, writtenBlock, writtenKey, writtenData, countOpening, writtenSector, asPair, gapAfter, reach, writtenSpans, writtenBehind}
 use Rattle.format.specs.Span.{unmarkedRun, runsToIndex, spanLength, afterOpening, beforeOpening, laterSpans, spans}
 use Rattle.format.specs.Sector.{sectorIn, settle, judgeCount, readBlocks, judgeSector, readSpan, contentRight}
 use Rattle.format.specs.Accept.{judgeMarks, readSpans, placedFrom, among, judgeNumbers, judgeBehind, acceptCells, accept, endOf, fromNumber}
-use Rattle.format.specs.Written.{gapOne, countInfo, writtenBlock, writtenKey, writtenData, countOpening, writtenSector, asPair, gapAfter, reach, writtenSpans, writtenBehind}
 use Rattle.format.specs.Blank.{namedBy, blankRight, writtenHead, blankSector, blank}
 use Rattle.format.specs.Add.{judgeAbsent, addedFlag, addedSector, addedTo, addCells, add}
 use Rattle.base.proofs.Tests.{and-both}
 use Rattle.worked.specs.Tracks.{address, blankOf, twoSectors, acceptOf, numbers, placesIn, places, placesOf, sectorOf, byHand, answerByHand, answerOfZeros}
 use Rattle.worked.specs.Table.{Case, sameNumbers, allHold, EachHolds, starred, further}
+use Rattle.format.specs.Blocks.{partAt, blocksAt, judgeFit}
 
 same-equal : (xs ys : List ℕ) → sameNumbers xs ys ≡ true → xs ≡ ys
 unfolding sameNumbers
@@ -46,7 +47,7 @@ unfolding digits coefficients divisor bringDown remainder checkBytes
     lengthRight marksLegal lentForWriting lentForReading cells bytesOf marksOf opens closing closedAfter
     homeFlagRight sequenceRight countFlagRight namesItself addressIn addressBytes addressInRange sameAddress addressRight
     homeFrom findHome homeBytes homeOf homeFieldsRight judgeHomeOf judgeHome countFits countClosed countAddressRight countFieldsRight
-    keySize dataSize dataOffset blockEnd leastGap blocksFit blockRight blockInfo keyRight dataRight keyInfo dataInfo
+    keySize dataSize dataOffset blockEnd leastGap blocksFit blockRight blockInfo keyRight dataRight keyInfo dataInfo partAt blocksAt judgeFit
     unmarkedRun runsToIndex spanLength afterOpening beforeOpening laterSpans spans sectorIn settle judgeCount readBlocks judgeSector readSpan
     judgeMarks readSpans placedFrom among judgeNumbers judgeBehind acceptCells accept
     gapOne countInfo writtenBlock writtenKey writtenData countOpening writtenSector asPair gapAfter reach writtenSpans writtenBehind

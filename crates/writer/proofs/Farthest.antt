@@ -6,10 +6,10 @@ use mathlib.Core.Bool.{Bool, false}
 use mathlib.Core.List.{List, [], _∷_}
 use lib.ListN.{length}
 use Rattle.format.specs.Lent.{cells}
-use Rattle.format.specs.Block.{keySize, dataSize}
-use Rattle.format.specs.Sector.{Sector, openingLength}
+use Rattle.format.specs.Block.{keySize}
+use Rattle.format.specs.Written.{dataSize, gapOne, gapAfter, writtenSector, reach, sectorSize}
+use Rattle.format.specs.Sector.{Sector}
 use Rattle.format.specs.Accept.{Placed, sectorsOf}
-use Rattle.format.specs.Written.{gapOne, gapAfter, writtenSector, reach, sectorSize}
 use Rattle.format.proofs.Sector.Sizes.{key-size-least, data-size-least}
 use Rattle.format.proofs.Sector.ReadBack.{length-written}
 use Rattle.sectors.specs.declared.SectorAt.{SectorAt}
@@ -60,16 +60,12 @@ module _ (t m : List ℕ) (p : ℕ) (first : Bool) (xs : List Placed) (s : Secto
   pub lengths-stepped : (s .«key_length» ≤ 255) × (s .«data_length» ≤ 65535)
   lengths-stepped = (omega (arith, v .key-length-is, v .fits .key-fits), omega (arith, v .data-length-is, v .fits .data-fits))
 
-  -- Its block ends where it takes it.
-  pub end-stepped : p + sectorSize first (s .«key_length») (s .«data_length») ≡ s .end
+  -- Its block ends no earlier than its written form does.
+  pub end-stepped : p + sectorSize first (s .«key_length») (s .«data_length») ≤ s .end
   unfolding sectorSize
-  end-stepped =
-      let e : s .end ≡ p + openingLength first + 23 + keySize (s .«key_length») + dataSize (s .«data_length») =
-      v .end-is ∙ v .stepping .end-size
-      ∙ ap₂ (λ (k d : ℕ). p + openingLength first + 23 + keySize k + dataSize d) (sym (v .key-length-is)) (sym (v .data-length-is)) in
-      omega arith
+  end-stepped = omega (arith, ap keySize (v .key-length-is), ap dataSize (v .data-length-is), v .end-is, v .stepping .end-size)
 
-  -- It takes what it took, and its gap less than twice that.
+  -- It takes no more than it took, and its gap less than twice that.
   pub grows-stepped : sectorSize first (s .«key_length») (s .«data_length») + gapOne (s .«key_length») (s .«data_length») + 3 * p ≤ 3 * s .next
   grows-stepped = omega (arith, end-stepped, v .end-inside, gap-below first (s .«key_length») (s .«data_length»))
 

@@ -10,9 +10,9 @@ use lib.Dec.{lit<, eqb}
 use borrow.Author.Tests.{leb-true}
 use borrow.Rule.Slice.PartMut.{putMid}
 use Rattle.format.specs.Lent.{bytesOf, marksOf}
-use Rattle.format.specs.Block.{keySize, dataSize}
+use Rattle.format.specs.Block.{keySize}
+use Rattle.format.specs.Written.{dataSize, writtenSector, sectorSize}
 use Rattle.format.specs.Sector.{Sector, openingLength, contentRight}
-use Rattle.format.specs.Written.{writtenSector, sectorSize}
 use Rattle.base.proofs.Tests.{cases, and-both}
 use Rattle.format.proofs.Cells.Opening.{unmarked-replicate}
 use Rattle.format.proofs.Track.Pairs.{length-bytes, length-marks, bytes-unmarked}

@@ -1,7 +1,7 @@
 -- `data_size` meets its contract.
 use borrow.Author.Needs.{needs}
 use borrow.Author.Tests.{eq-eqb, ne-eqb}
-use Rattle.format.specs.Block.{dataSize}
+use Rattle.format.specs.Written.{dataSize}
 use Rattle.encode.proofs.data_size.Statement.{statement}
 use Rattle.encode.proofs.data_size.Tie as tie
 

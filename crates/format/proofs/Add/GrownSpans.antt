@@ -20,6 +20,7 @@ use Rattle.format.proofs.Sector.ReadsAs.{Reads}
 use Rattle.format.proofs.Sector.ReadSector.{read-inv}
 use Rattle.format.proofs.Track.SharedAddress.{AllName, MaySettle, settle-named}
 use Rattle.format.proofs.Written.ShortenedSpan.{blockPlace, shortened, place-in, read-shortened, clean-shortened, shape-shortened}
+use Rattle.format.specs.Blocks.{blocksAt}
 
 -- The spans g and gs, of which g stands in position i, the last of them with m bytes of gap, and w behind them.
 unfoldable pub grown : ℕ → List ℕ → List (List ℕ) → ℕ → List ℕ → List (List ℕ)
@@ -107,7 +108,7 @@ last-name b p g (k ∷ gs) s (t ∷ ss) v = last-name b (p + length g) k gs t ss
 
 end-placed : (h : Home) (i : ℕ) (x : Settled) (p : ℕ) (last : Bool) (g : List ℕ) (s : Sector) → readSpan h i x p last g ≡ good s
     → endOf (placedAt p g s) ≡ p + blockPlace i g
-unfolding endOf blockPlace sectorIn
+unfolding endOf blocksAt blockPlace sectorIn
 end-placed h i x p last g s e =
     let f : s .first ≡ isFirst i = ap (λ (z : Sector). z .first) (read-inv h i x p last g s e .sector-is) in
     ap (λ (b : Bool). p + openingLength b + blockEnd (drop (openingLength b) g)) f ∙ omega arith

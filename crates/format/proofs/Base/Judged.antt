@@ -6,7 +6,7 @@ use mathlib.Core.Bool.{Bool, true, false}
 use Rattle.base.specs.Pick.{pick}
 use Rattle.base.proofs.Tests.{false-true}
 use Rattle.format.specs.Answer.{Answer}
-use Rattle.format.specs.Judged.{Judged, good, refused, then, require}
+use Rattle.format.specs.Judged.{Judged, good, refused, then, require, answerOf}
 
 pub good-inj : {A : Type 0} (x y : A) → _≡_ {A = Judged A} (good x) (good y) → x ≡ y
 good-inj x y e = cc
@@ -27,3 +27,8 @@ require-good false a j y e = refused-good a y e
 pub require-holds : {A : Type 0} (b : Bool) (a : Answer) (j k : Judged A) → b ≡ true → j ≡ k → require b a j ≡ k
 require-holds true a j k e h = h
 require-holds false a j k e h = false-true e
+
+-- A refusal by another number than 0 is not good.
+pub require-zero : {A : Type 0} (b : Bool) (a : Answer) (j : Judged A) → (a .number ≡ 0 → ⊥) → answerOf (require b a j) .number ≡ 0 → (b ≡ true) × (answerOf j .number ≡ 0)
+require-zero true a j h e = (refl, e)
+require-zero false a j h e = absurd (h e)

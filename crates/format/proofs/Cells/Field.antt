@@ -13,8 +13,8 @@ use Rattle.crc.specs.Check.{checkOf, checkBytes}
 use Rattle.crc.proofs.Check.{check-lt}
 use Rattle.format.specs.Lent.{unmarked}
 use Rattle.format.specs.Opening.{startsWith, plainOpening, closing, closedAfter}
-use Rattle.format.specs.Block.{keySize, dataSize, blockRight, blockInfo}
-use Rattle.format.specs.Written.{innerGap, writtenBlock, writtenKey, writtenData}
+use Rattle.format.specs.Block.{keySize, blockRight, blockInfo}
+use Rattle.format.specs.Written.{dataSize, innerGap, writtenBlock, writtenKey, writtenData}
 use Rattle.format.proofs.Cells.Opening.{starts-with-self, unmarked-append}
 
 -- A field is closed by three bytes.

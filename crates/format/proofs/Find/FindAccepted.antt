@@ -11,13 +11,14 @@ use Rattle.format.specs.Answer.{sectorMissing}
 use Rattle.format.specs.Judged.{good, refused}
 use Rattle.format.specs.Lent.{lentForReading, cells}
 use Rattle.format.specs.Home.{Home, firstCountPlace}
-use Rattle.format.specs.Count.{Settled, unsettled, countNumber, keyLength, dataLength}
+use Rattle.format.specs.Count.{Settled, unsettled, countNumber}
 use Rattle.format.specs.Block.{blocksFit, keyRight, dataRight}
 use Rattle.format.specs.Span.{none}
 use Rattle.format.specs.Sector.{Sector, openingLength, isFirst, settle, sectorIn}
 use Rattle.format.specs.Accept.{Placed, placedFrom, among, Accepted, spansOf, accept}
 use Rattle.format.specs.Candidate.{Candidate, candidates}
-use Rattle.format.specs.Find.{Wanted, theKey, theData, Part, partAt, partOf, carrying, only, keyPlace, dataPlace, wantedPart, candidatePart, findCells, find, contentOf}
+use Rattle.format.specs.Find.{partOf, carrying, only, candidatePart, findCells, find, contentOf}
+use Rattle.format.specs.Blocks.{Wanted, theKey, theData, Part, judgeFit}
 use Rattle.base.proofs.Tests.{cases, false-true}
 use Rattle.base.specs.Lists.{Member}
 use Rattle.format.proofs.Sector.ReadSector.{ReadAs, behindOpening, read-inv}
@@ -26,8 +27,9 @@ use Rattle.format.proofs.Track.Pairs.{accepted-pair}
 use Rattle.format.proofs.Track.Sectors.{Distinct, numbersOf, numbers-distinct}
 use Rattle.format.proofs.Find.SpanCandidates.{candidatesOf, none-placed, read-first}
 use Rattle.format.proofs.Find.AcceptedCandidates.{candidates-accepted}
-use Rattle.format.proofs.Find.FindParts.{infoOf}
+use Rattle.format.proofs.Sector.BlocksJudged.{infoOf, rightOf, partIn, part-right}
 use Rattle.format.proofs.Find.FindSound.{find-hands-out}
+use Rattle.format.proofs.Find.FindParts.{behindCount}
 
 -- What follows the count's opening in the span of a sector.
 abbrev restOf : Placed → List ℕ
@@ -129,15 +131,14 @@ accepted-read c a b =
     subst AllRead (sym (b .placed)) (reads-all (a .home) 0 unsettled p (spansOf (a .home) c) (b .sectors) (b .reads))
 
 -- The part that is asked for is right.
-wanted-good : (last : Bool) (x : Placed) → ReadWell last x → (w : Wanted) → (part : Part) × (wantedPart w (candidateOf last x) ≡ good part)
-unfolding wantedPart
-wanted-good last x v theKey = let y : Candidate = candidateOf last x in (partAt (keyPlace y + 6) (keyLength (y .rest)), rw (v .key-right))
-wanted-good last x v theData = let y : Candidate = candidateOf last x in (partAt (dataPlace y + 6) (dataLength (y .rest)), rw (v .data-right))
+well-right : (last : Bool) (x : Placed) → ReadWell last x → (w : Wanted) → rightOf w (restOf x) ≡ true
+well-right last x v theKey = v .key-right
+well-right last x v theData = v .data-right
 
 find-alone : (s : ℕ) (w : Wanted) (t m : List ℕ) (x : Candidate) → lentForReading t m ≡ true → carrying s (candidates (cells t m)) ≡ x ∷ [] → blocksFit (x .last) (x .rest) ≡ true
-    → find s w t m ≡ wantedPart w x
-unfolding find findCells candidatePart only
-find-alone s w t m x l o f = rw (l, o, f)
+    → rightOf w (x .rest) ≡ true → find s w t m ≡ good (partIn w (behindCount x) (x .rest))
+unfolding find findCells candidatePart only judgeFit
+find-alone s w t m x l o f e = rw (l, o, f) (part-right w (behindCount x) (x .rest) e)
 
 -- On an accepted track Find hands out the key and the data of each sector.
 pub find-content : (t m : List ℕ) (a : Accepted) → accept t m ≡ good a → (x : Placed) → Member x (a .sectors) → (w : Wanted)
@@ -149,11 +150,11 @@ find-content t m a e x k w =
     let y = carrying-one x (a .sectors) (accepted-read c a (accepted-by c a (h .1))) (numbers-distinct c a (h .1)) k in
     let z : Candidate = candidateOf (y .last) x in
     let o : carrying n (candidates c) ≡ z ∷ [] = ap (carrying n) (candidates-accepted c a (h .1)) ∙ y .alone in
-    let g = wanted-good (y .last) x (y .well) w in
-    let f : find n w t m ≡ good (g .0) = find-alone n w t m z (h .0) o (y .well .fits) ∙ g .1 in
-    let r = find-hands-out n w t m (g .0) f in
+    let g : Part = partIn w (behindCount z) (z .rest) in
+    let f : find n w t m ≡ good g = find-alone n w t m z (h .0) o (y .well .fits) (well-right (y .last) x (y .well) w) in
+    let r = find-hands-out n w t m g f in
     let same : r .0 ≡ z = same-head (r .0) z (sym (r .1 .alone) ∙ o) in
-    (g .0, f, r .1 .bytes ∙ ap (λ (v : Candidate). infoOf w (v .rest)) same ∙ y .well .info-is w)
+    (g, f, r .1 .bytes ∙ ap (λ (v : Candidate). infoOf w (v .rest)) same ∙ y .well .info-is w)
   where
     same-head : (u v : Candidate) → _≡_ {A = List Candidate} (u ∷ []) (v ∷ []) → u ≡ v
     same-head u v q = cc

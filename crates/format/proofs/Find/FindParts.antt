@@ -1,40 +1,25 @@
 -- What Find settles on: the only candidate that carries S, and its key or data where that is right.
 use mathlib.Core.Path.{_≡_, refl, sym, ap, _∙_}
 use mathlib.Core.Logic.{inl, inr, ⊎-elim}
-use Prim.Native.Nat.{ℕ, _+_, _≤_}
-use native.Mathlib.Omega.{arith}
-use mathlib.Core.Bool.{Bool, true, false}
+use Prim.Native.Nat.{ℕ, _+_}
+use mathlib.Core.Bool.{true, false}
 use mathlib.Core.List.{List, [], _∷_}
-use lib.ListN.{length, take, drop}
+use lib.ListN.{take, drop}
 use lib.Dec.{eqb}
-use borrow.Author.Tests.{eqb-true, leb-true}
-use Rattle.format.specs.Answer.{keyWrong, dataWrong, sectorMissing, sectorRepeated}
+use borrow.Author.Tests.{eqb-true}
+use Rattle.format.specs.Answer.{sectorMissing, sectorRepeated}
 use Rattle.format.specs.Judged.{good}
 use Rattle.format.specs.Opening.{startsWith, plainOpening, closedAfter}
-use Rattle.format.specs.Count.{countNumber, keyLength, dataLength}
-use Rattle.format.specs.Block.{keyOffset, keySize, dataSize, dataOffset, blockEnd, leastGap, blocksFit, blockRight, blockInfo, keyRight, dataRight, keyInfo, dataInfo}
+use Rattle.format.specs.Count.{countNumber}
+use Rattle.format.specs.Block.{blockRight, blockInfo, keyInfo, dataInfo}
 use Rattle.format.specs.Sector.{openingLength}
 use Rattle.format.specs.Candidate.{Candidate}
-use Rattle.format.specs.Find.{Wanted, theKey, theData, Part, partAt, carrying, only, keyPlace, dataPlace, wantedPart}
-use Rattle.format.proofs.Base.Judged.{good-inj, refused-good, require-good}
+use Rattle.format.specs.Find.{carrying, only}
+use Rattle.format.specs.Blocks.{Wanted, theKey, theData, Part, partAt, wantedPart, blocksAt}
+use Rattle.format.proofs.Base.Judged.{good-inj, refused-good}
 use Rattle.base.proofs.Tests.{cases, and-both}
-use Rattle.format.proofs.Sector.Sizes.{key-size-least, data-size-least, gap-least}
 use Rattle.base.specs.Lists.{Member}
-
--- Where the key or the data block opens behind the count's opening, of which r is what follows.
-abbrev pub offsetOf : Wanted → List ℕ → ℕ
-offsetOf theKey r = keyOffset
-offsetOf theData r = dataOffset r
-
--- Its length by the count.
-abbrev pub lengthOf : Wanted → List ℕ → ℕ
-lengthOf theKey r = keyLength r
-lengthOf theData r = dataLength r
-
--- Its information.
-abbrev pub infoOf : Wanted → List ℕ → List ℕ
-infoOf theKey r = keyInfo r
-infoOf theData r = dataInfo r
+use Rattle.format.proofs.Sector.BlocksJudged.{offsetOf, lengthOf, infoOf, part-good, right-block}
 
 -- Where the bytes of a count begin, behind its opening.
 abbrev pub behindCount : Candidate → ℕ
@@ -51,14 +36,6 @@ pub right-both : (n : ℕ) (c : List ℕ) → blockRight n c ≡ true → (start
 unfolding blockRight
 right-both n c e = and-both (startsWith plainOpening c) (closedAfter n (drop 6 c)) e
 
--- The block asked for ends in what follows the opening.
-pub block-fits : (w : Wanted) (last : Bool) (r : List ℕ) → blocksFit last r ≡ true → offsetOf w r + 6 + lengthOf w r + 3 ≤ length r
-unfolding blocksFit blockEnd dataOffset
-block-fits theKey last r e =
-    omega (arith, leb-true (23 + keySize (keyLength r) + dataSize (dataLength r) + leastGap last) (length r) e, key-size-least (keyLength r), data-size-least (dataLength r), gap-least last)
-block-fits theData last r e =
-    omega (arith, leb-true (23 + keySize (keyLength r) + dataSize (dataLength r) + leastGap last) (length r) e, data-size-least (dataLength r), gap-least last)
-
 -- What a part is that was found to be right.
 pub record Right (w : Wanted) (x : Candidate) (part : Part) : Type 0 where
   pub size-is : part .size ≡ lengthOf w (x .rest)
@@ -66,27 +43,15 @@ pub record Right (w : Wanted) (x : Candidate) (part : Part) : Type 0 where
   pub right : eqb (lengthOf w (x .rest)) 0 ≡ false → blockRight (lengthOf w (x .rest)) (drop (offsetOf w (x .rest)) (x .rest)) ≡ true
 
 -- The part asked for is right.
-pub part-right : (w : Wanted) (x : Candidate) (part : Part) → wantedPart w x ≡ good part → Right w x part
-unfolding wantedPart partAt keyRight dataRight
-part-right theKey x part e =
+pub found-right : (w : Wanted) (x : Candidate) (part : Part) → wantedPart w (blocksAt (behindCount x) (x .rest)) ≡ good part → Right w x part
+unfolding partAt
+found-right w x part e =
     let r : List ℕ = x .rest in
-    let n : ℕ = keyLength r in
-    let a = require-good (keyRight r) (keyWrong (keyPlace x)) (good (partAt (keyPlace x + 6) n)) part e in
-    let q : partAt (keyPlace x + 6) n ≡ part = good-inj (partAt (keyPlace x + 6) n) part (a .1) in
+    let a = part-good w (behindCount x) r part e in
     record {
-      size-is = sym (ap (λ (p : Part). p .size) q);
-      start-is = λ z. sym (ap (λ (p : Part). p .start) q) ∙ rw z;
-      right = λ z. rw z at (a .0);
-    }
-part-right theData x part e =
-    let r : List ℕ = x .rest in
-    let n : ℕ = dataLength r in
-    let a = require-good (dataRight r) (dataWrong (dataPlace x)) (good (partAt (dataPlace x + 6) n)) part e in
-    let q : partAt (dataPlace x + 6) n ≡ part = good-inj (partAt (dataPlace x + 6) n) part (a .1) in
-    record {
-      size-is = sym (ap (λ (p : Part). p .size) q);
-      start-is = λ z. sym (ap (λ (p : Part). p .start) q) ∙ rw z;
-      right = λ z. rw z at (a .0);
+      size-is = sym (ap (λ (p : Part). p .size) (a .1));
+      start-is = λ z. sym (ap (λ (p : Part). p .start) (a .1)) ∙ rw z;
+      right = right-block w r (a .0);
     }
 
 -- The only candidate stands alone.

@@ -9,19 +9,21 @@ use lib.ListN.{length, take, drop, length-drop}
 use lib.Seq.{take-append-le, drop-append-le, drop-drop}
 use lib.Dec.{eqb}
 use borrow.Author.Tests.{eqb-true}
-use Rattle.format.specs.Answer.{lentWrong, spanTooShort}
+use Rattle.format.specs.Answer.{lentWrong}
 use Rattle.format.specs.Judged.{good}
 use Rattle.format.specs.Lent.{lentForReading, cells}
 use Rattle.format.specs.Opening.{startsWith, plainOpening, closing, closedAfter}
 use Rattle.format.specs.Count.{countNumber}
 use Rattle.format.specs.Block.{blocksFit}
 use Rattle.format.specs.Candidate.{Candidate, candidates}
-use Rattle.format.specs.Find.{Wanted, Part, partOf, carrying, only, wantedPart, candidatePart, findCells, find}
+use Rattle.format.specs.Find.{partOf, carrying, only, candidatePart, findCells, find}
+use Rattle.format.specs.Blocks.{Wanted, Part, judgeFit}
 use Rattle.format.proofs.Base.Judged.{then-good, require-good}
 use Rattle.base.proofs.Tests.{cases, false-true, and-both, and-make}
 use Rattle.base.specs.Lists.{Member}
 use Rattle.format.proofs.Find.CandidateBytes.{rest-in-track}
-use Rattle.format.proofs.Find.FindParts.{offsetOf, lengthOf, infoOf, behindCount, block-fits, info-is, right-both, Right, part-right, only-is, carrying-member}
+use Rattle.format.proofs.Find.FindParts.{behindCount, info-is, right-both, Right, only-is, carrying-member, found-right}
+use Rattle.format.proofs.Sector.BlocksJudged.{offsetOf, lengthOf, infoOf, block-fits, fit-good}
 
 -- The part, with its check and closing byte, lies in the span of the count x.
 abbrev pub InSpan : Candidate → Part → Type 0
@@ -110,19 +112,20 @@ find-hands-out s w t m part e =
     let a = require-good (lentForReading t m) lentWrong (findCells s w c) part e in
     let b = then-good (only (carrying s (candidates c))) _ part (a .1) in
     let x : Candidate = b .0 in
-    let d = require-good (blocksFit (x .last) (x .rest)) (spanTooShort (x .place)) (wantedPart w x) part (b .2) in
+    let d = then-good (judgeFit (x .place) (x .last) (x .rest)) _ part (b .2) in
+    let f : blocksFit (x .last) (x .rest) ≡ true = fit-good (x .place) (x .last) (x .rest) (d .0) (d .1) in
     let o : carrying s (candidates c) ≡ x ∷ [] = only-is (carrying s (candidates c)) x (b .1) in
     let h = carrying-member s (candidates c) x (subst (Member x) (sym o) (inl refl)) in
-    let v : Right w x part = part-right w x part (d .1) in (
+    let v : Right w x part = found-right w x part (d .2) in (
       x,
       record {
         member = h .0;
         carries = h .1;
         alone = o;
         size-is = v .size-is;
-        bytes = part-bytes w t m x part (h .0) (d .0) v;
-        inside = part-inside w t m x part (h .0) (d .0) v;
-        opened = part-opened w t m x part (h .0) (d .0) v;
-        closed = part-closed w t m x part (h .0) (d .0) v;
+        bytes = part-bytes w t m x part (h .0) f v;
+        inside = part-inside w t m x part (h .0) f v;
+        opened = part-opened w t m x part (h .0) f v;
+        closed = part-closed w t m x part (h .0) f v;
       },
     )

@@ -11,7 +11,8 @@ use Rattle.format.specs.Lent.{cells}
 use Rattle.format.specs.Flag.{condition}
 use Rattle.format.specs.Home.{Home}
 use Rattle.format.specs.Accept.{Accepted, accept}
-use Rattle.format.specs.Find.{Wanted, Part, find}
+use Rattle.format.specs.Find.{find}
+use Rattle.format.specs.Blocks.{Wanted, Part}
 use Rattle.format.specs.PairFind.{judgeFirst, pairAgrees, findOnSecond, findByFlag, pairFind}
 use Rattle.format.proofs.Base.Judged.{refused-good}
 use Rattle.base.proofs.Tests.{cases}

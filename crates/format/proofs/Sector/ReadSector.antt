@@ -5,17 +5,19 @@ use mathlib.Core.Bool.{Bool, true, false}
 use mathlib.Core.List.{List}
 use lib.ListN.{length, drop, length-take, length-drop}
 use native.Mathlib.Omega.{arith}
-use borrow.Author.Tests.{leb-true}
 use Rattle.base.specs.Pick.{pick}
-use Rattle.format.specs.Answer.{firstCountMissing, countCheckWrong, countFieldsWrong, spanTooShort, keyWrong, dataWrong}
+use Rattle.format.specs.Answer.{firstCountMissing, countCheckWrong, countFieldsWrong, spanTooShort}
 use Rattle.format.specs.Judged.{good}
 use Rattle.format.specs.Opening.{startsWith, plainOpening}
 use Rattle.format.specs.Home.{Home}
 use Rattle.format.specs.Count.{Settled, keyLength, dataLength, countFits, countClosed, countFieldsRight}
-use Rattle.format.specs.Block.{keyOffset, keySize, dataSize, dataOffset, blockEnd, leastGap, blocksFit, keyRight, dataRight, keyInfo, dataInfo, blockInfo}
+use Rattle.format.specs.Blocks.{theKey, theData, blocksAt, judgeFit}
+use Rattle.format.specs.Block.{blockEnd, leastGap, blocksFit, keyRight, dataRight, keyInfo, dataInfo, blockInfo}
 use Rattle.format.specs.Sector.{Sector, openingLength, isFirst, sectorIn, judgeCount, readBlocks, judgeSector, readSpan}
 use Rattle.format.proofs.Base.Judged.{good-inj, then-good, require-good, require-holds}
-use Rattle.format.proofs.Sector.Sizes.{key-size-least, data-size-least, gap-least, rest-least}
+use Rattle.format.proofs.Sector.Sizes.{rest-least}
+use Rattle.format.proofs.Sector.BlocksJudged.{fit-good, part-good}
+use Rattle.format.proofs.Sector.BlockEnd.{key-in-offset, data-in-end, end-in-span}
 
 -- What follows the count's opening in the span g of position i.
 abbrev pub behindOpening : ℕ → List ℕ → List ℕ
@@ -50,14 +52,17 @@ blocks-inv : (first : Bool) (p : ℕ) (last : Bool) (r : List ℕ) (s : Sector) 
     → (blocksFit last r ≡ true) × ((keyRight r ≡ true) × ((dataRight r ≡ true) × (s ≡ sectorIn first r)))
 unfolding readBlocks
 blocks-inv first p last r s e =
-    let a = require-good (blocksFit last r) (spanTooShort p) _ s e in
-    let b = require-good (keyRight r) (keyWrong (p + openingLength first + keyOffset)) _ s (a .1) in
-    let c = require-good (dataRight r) (dataWrong (p + openingLength first + dataOffset r)) _ s (b .1) in
-    (a .0, (b .0, (c .0, sym (good-inj (sectorIn first r) s (c .1)))))
+    let q : ℕ = p + openingLength first in
+    let a = then-good (judgeFit p last r) _ s e in
+    let b = then-good (blocksAt q r .key) _ s (a .2) in
+    let c = then-good (blocksAt q r .body) _ s (b .2) in (
+      fit-good p last r (a .0) (a .1),
+      (part-good theKey q r (b .0) (b .1) .0, (part-good theData q r (c .0) (c .1) .0, sym (good-inj (sectorIn first r) s (c .2)))),
+    )
 
 blocks-make : (first : Bool) (p : ℕ) (last : Bool) (r : List ℕ) (s : Sector) → blocksFit last r ≡ true → keyRight r ≡ true → dataRight r ≡ true → s ≡ sectorIn first r
     → readBlocks first p last r ≡ good s
-unfolding readBlocks
+unfolding readBlocks judgeFit blocksAt
 blocks-make first p last r s a b c e = rw (a, b, c, e)
 
 -- A reading that gives a sector has passed every test.
@@ -109,41 +114,33 @@ pub record Lengths (i : ℕ) (last : Bool) (g : List ℕ) (s : Sector) : Type 0 
   pub reaches : openingLength (isFirst i) + blockEnd (behindOpening i g) + leastGap last ≤ length g
   pub key-length : length (s .keyBytes) ≡ keyLength (behindOpening i g)
   pub data-length : length (s .dataBytes) ≡ dataLength (behindOpening i g)
-  pub ends : blockEnd (behindOpening i g) ≡ 23 + keySize (length (s .keyBytes)) + dataSize (length (s .dataBytes))
-
-fit-least : (last : Bool) (r : List ℕ) → blocksFit last r ≡ true → dataOffset r + dataSize (dataLength r) + leastGap last ≤ length r
-unfolding blocksFit blockEnd
-fit-least last r e = leb-true _ (length r) e
 
 -- The key of blocks that fit is as long as the count says.
 pub fit-key : (last : Bool) (r : List ℕ) → blocksFit last r ≡ true → length (keyInfo r) ≡ keyLength r
-unfolding keyInfo blockInfo dataOffset
-fit-key last r e =
-    simp (length-take, length-drop)
-    (omega (arith, fit-least last r e, key-size-least (keyLength r), data-size-least (dataLength r), gap-least last))
+unfolding keyInfo blockInfo
+fit-key last r e = simp (length-take, length-drop) (omega (arith, end-in-span r last e, key-in-offset r, data-in-end r))
 
 -- So is their data.
 pub fit-data : (last : Bool) (r : List ℕ) → blocksFit last r ≡ true → length (dataInfo r) ≡ dataLength r
 unfolding dataInfo blockInfo
-fit-data last r e = simp (length-take, length-drop) (omega (arith, fit-least last r e, data-size-least (dataLength r)))
+fit-data last r e = simp (length-take, length-drop) (omega (arith, end-in-span r last e, data-in-end r))
 
 -- The lengths of what is read.
 pub read-length : (h : Home) (i : ℕ) (x : Settled) (last : Bool) (g : List ℕ) (s : Sector) → ReadAs h i x last g s → Lengths i last g s
-unfolding blockEnd dataOffset sectorIn
+unfolding sectorIn
 read-length h i x last g s v =
     let r : List ℕ = behindOpening i g in
     let k : length (s .keyBytes) ≡ keyLength r = ap (λ (z : Sector). length (z .keyBytes)) (v .sector-is) ∙ fit-key last r (v .blocks-fit) in
     let d : length (s .dataBytes) ≡ dataLength r = ap (λ (z : Sector). length (z .dataBytes)) (v .sector-is) ∙ fit-data last r (v .blocks-fit) in
     record {
-      reaches = omega (arith, fit-least last r (v .blocks-fit), length-drop (openingLength (isFirst i)) g);
+      reaches = omega (arith, end-in-span r last (v .blocks-fit), data-in-end r, length-drop (openingLength (isFirst i)) g);
       key-length = k;
       data-length = d;
-      ends = rw (k, d);
     }
 
 -- A span that is read has at least 57 cells in position 0 and 59 later; at least 49 and 51 where it runs to index.
 pub span-least : (h : Home) (i : ℕ) (x : Settled) (last : Bool) (g : List ℕ) (s : Sector) → ReadAs h i x last g s
     → openingLength (isFirst i) + pick last 43 51 ≤ length g
 span-least h i x last g s v =
-    let z = read-length h i x last g s v in
-    omega (arith, z .reaches, z .ends, data-size-least (length (s .dataBytes)), rest-least last)
+    let r : List ℕ = behindOpening i g in
+    omega (arith, read-length h i x last g s v .reaches, key-in-offset r, data-in-end r, rest-least last)

@@ -1,4 +1,4 @@
--- How little a key, a data block and a gap can take.
+-- How little and how much a key, a written data block and a gap can take.
 use mathlib.Core.Path.{_≡_, refl}
 use Prim.Native.Nat.{ℕ, _+_, _≤_}
 use mathlib.Core.Bool.{Bool, true, false}
@@ -6,7 +6,8 @@ use lib.Dec.{eqb}
 use native.Mathlib.Omega.{arith}
 use borrow.Author.Tests.{eqb-true}
 use Rattle.base.specs.Pick.{pick}
-use Rattle.format.specs.Block.{keySize, dataSize, leastGap}
+use Rattle.format.specs.Block.{keySize, leastGap}
+use Rattle.format.specs.Written.{dataSize}
 use Rattle.base.proofs.Tests.{cases}
 
 -- A key takes at least its own bytes.
@@ -14,7 +15,12 @@ pub key-size-least : (n : ℕ) → n ≤ keySize n
 unfolding keySize
 key-size-least n = cases (eqb n 0) (λ e. rw e (omega (arith, eqb-true n 0 e))) (λ e. rw e (omega arith))
 
--- A data block takes at least seven bytes more than its own.
+-- A key takes at most 20 bytes beside its own.
+pub key-size-most : (n : ℕ) → keySize n ≤ n + 20
+unfolding keySize
+key-size-most n = cases (eqb n 0) (λ e. rw e (omega arith)) (λ e. rw e (omega arith))
+
+-- A written data block takes at least seven bytes more than its own.
 pub data-size-least : (n : ℕ) → n + 7 ≤ dataSize n
 unfolding dataSize
 data-size-least n = cases (eqb n 0) (λ e. rw e (omega (arith, eqb-true n 0 e))) (λ e. rw e (omega arith))

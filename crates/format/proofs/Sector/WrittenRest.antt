@@ -1,5 +1,5 @@
 -- What is written for a sector behind its count's opening, read field by field.
-use mathlib.Core.Path.{_≡_, refl, sym}
+use mathlib.Core.Path.{_≡_, refl, sym, ap, _∙_}
 use Prim.Native.Nat.{ℕ, _+_, _≤_}
 use native.Mathlib.Nat.{div-add-mod'}
 use mathlib.Core.Bool.{Bool, true}
@@ -13,10 +13,11 @@ use Rattle.format.specs.Lent.{unmarked}
 use Rattle.format.specs.Opening.{closing}
 use Rattle.format.specs.Address.{addressIn, addressBytes}
 use Rattle.format.specs.Count.{countFlag, countNumber, keyLength, dataLength, countFits, countClosed}
-use Rattle.format.specs.Block.{keySize, dataSize, dataOffset, blockEnd, leastGap, blocksFit, keyRight, dataRight, keyInfo, dataInfo}
+use Rattle.format.specs.Block.{keySize, dataOffset, blockEnd, leastGap, blocksFit, keyRight, dataRight, keyInfo, dataInfo}
+use Rattle.format.specs.Written.{dataSize, innerGap, countInfo, writtenKey, writtenData, countOpening, writtenSector}
 use Rattle.format.specs.Sector.{Sector, sectorIn}
-use Rattle.format.specs.Written.{innerGap, countInfo, writtenKey, writtenData, countOpening, writtenSector}
 use Rattle.format.proofs.Cells.Opening.{unmarked-append}
+use Rattle.format.proofs.Sector.BlockEnd.{end-written}
 use Rattle.format.proofs.Cells.Field.{closed-field, length-closing, unmarked-closing, key-right-written, key-info-written, length-key, unmarked-key, data-right-written, data-info-written, length-data, unmarked-data}
 
 -- Count, key and data block of s, and R behind them.
@@ -88,12 +89,18 @@ rest-at-data s R =
     rw (rest-offset s R, rest-split s R)
     (drop-at (beforeData s) (writtenData (s .dataBytes) ++ R) (23 + keySize (length (s .keyBytes))) (length-before-data s))
 
+-- It reads back with the end of what is written.
+pub rest-end : (s : Sector) (R : List ℕ) → blockEnd (writtenRest s R) ≡ 23 + keySize (length (s .keyBytes)) + dataSize (length (s .dataBytes))
+rest-end s R =
+    let r : List ℕ = writtenRest s R in
+    end-written r (s .dataBytes) R (rest-data-length s R) (rest-at-data s R) ∙ ap (λ (o : ℕ). o + dataSize (length (s .dataBytes))) (rest-offset s R)
+
 -- Its blocks and the least gap fit where R is as long as that gap.
 pub rest-blocks-fit : (last : Bool) (s : Sector) (R : List ℕ) → leastGap last ≤ length R → blocksFit last (writtenRest s R) ≡ true
-unfolding blocksFit blockEnd
+unfolding blocksFit
 rest-blocks-fit last s R h =
-    rw (rest-offset s R, rest-data-length s R)
-    (le-leb (23 + keySize (length (s .keyBytes)) + dataSize (length (s .dataBytes)) + leastGap last) (length (writtenRest s R)) (omega (arith, length-rest s R)))
+    let r : List ℕ = writtenRest s R in
+    le-leb (blockEnd r + leastGap last) (length r) (omega (arith, rest-end s R, length-rest s R))
 
 -- Its key is right.
 pub rest-key-right : (s : Sector) (R : List ℕ) → keyRight (writtenRest s R) ≡ true

@@ -4,7 +4,9 @@ use Prim.Native.Nat.{ℕ, _+_}
 use native.Mathlib.Omega.{arith}
 use Rattle.format.specs.Answer.{keyWrong, dataWrong}
 use Rattle.format.specs.Sector.{readBlocks}
-use Rattle.sector.proofs.Block.{opening-le, offset-lt}
+use Rattle.sector.proofs.Block.{opening-le}
+use Rattle.format.proofs.Sector.BlockEnd.{offset-lt}
+use Rattle.format.specs.Blocks.{blocksAt, judgeFit}
 use borrow.Author.Needs.{needs}
 use Rattle.sector.proofs.judge_blocks.Statement.{statement}
 use Rattle.sector.proofs.judge_blocks.Tie as tie
@@ -54,7 +56,7 @@ span-too-short-requires : tie.Need-span-too-short-requires
 span-too-short-requires c κs = search needs
 
 returns : tie.Need-returns
-unfolding readBlocks
+unfolding readBlocks judgeFit blocksAt
 returns c =
     rw (
       sym (c .before .before .before .before .before .before .blocks-fit .ensures) ∙ c .before .before .before .before .before .if1 .taken,
@@ -64,7 +66,7 @@ returns c =
     (c .done .ensures)
 
 returns-2 : tie.Need-returns-2
-unfolding readBlocks
+unfolding readBlocks judgeFit blocksAt
 returns-2 c =
     let p = c .before .before .before .before .before .before .before .before .before .before .args .p in
     rw (
@@ -76,14 +78,14 @@ returns-2 c =
     ∙ ap₂ (λ (x y : ℕ). dataWrong (p + x + y)) (c .before .before .opening-length .ensures) (c .before .data-offset .ensures))
 
 returns-3 : tie.Need-returns-3
-unfolding readBlocks
+unfolding readBlocks judgeFit blocksAt
 returns-3 c =
     let p = c .before .before .before .before .before .before .before .args .p in
     rw (sym (c .before .before .before .before .before .blocks-fit .ensures) ∙ c .before .before .before .before .if1 .taken, sym (c .before .before .before .key-right .ensures) ∙ c .before .before .if2 .left)
     (c .key-wrong .ensures ∙ ap (λ (x : ℕ). keyWrong (p + x + 23)) (c .before .opening-length2 .ensures))
 
 returns-4 : tie.Need-returns-4
-unfolding readBlocks
+unfolding readBlocks judgeFit blocksAt
 returns-4 c = rw (sym (c .before .before .blocks-fit .ensures) ∙ c .before .if1 .left) (c .span-too-short .ensures)
 
 pub judge-blocks-spec : {M : Type 1} → statement M

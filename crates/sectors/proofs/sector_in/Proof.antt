@@ -6,7 +6,7 @@ use native.Mathlib.Omega.{arith}
 use lib.Dec.{eqb}
 use Rattle.base.specs.Pick.{pick}
 use Rattle.format.specs.Block.{keyOffset}
-use Rattle.sector.proofs.Block.{offset-lt, end-lt}
+use Rattle.format.proofs.Sector.BlockEnd.{offset-lt, end-lt}
 use Rattle.sectors.proofs.Rest.{key-place-none, key-place-some, stepped-made}
 use borrow.Author.Needs.{needs}
 use Rattle.sectors.proofs.sector_in.Statement.{statement}

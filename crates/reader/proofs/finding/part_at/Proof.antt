@@ -1,6 +1,6 @@
 -- `part_at` meets its contract: an empty part is put at 0.
 use borrow.Author.Tests.{eq-eqb, ne-eqb}
-use Rattle.format.specs.Find.{partAt}
+use Rattle.format.specs.Blocks.{partAt}
 use Rattle.reader.proofs.finding.part_at.Statement.{statement}
 use Rattle.reader.proofs.finding.part_at.Tie as tie
 

@@ -7,7 +7,7 @@ use Rattle.format.specs.Answer.{Answer, keyWrong, dataWrong}
 use Rattle.format.specs.Judged.{good, refused}
 use Rattle.format.specs.Count.{keyLength, dataLength}
 use Rattle.format.specs.Block.{blocksFit, dataOffset, keyRight, dataRight}
-use Rattle.format.specs.Find.{theKey, theData, Part, partAt}
+use Rattle.format.specs.Blocks.{theKey, theData, Part, partAt}
 use Rattle.reader.specs.Finding.{asCandidate}
 use Rattle.reader.proofs.FindPart.{part-short, key-found, key-refused, data-found, data-refused, part-inside, found-inside}
 use borrow.Author.Needs.{needs}

@@ -3,7 +3,7 @@ use mathlib.Core.Path.{sym, ap, _∙_}
 use Rattle.format.specs.Answer.{Answer}
 use Rattle.format.specs.Judged.{Judged, refused}
 use Rattle.format.specs.Lent.{cells}
-use Rattle.format.specs.Find.{Part}
+use Rattle.format.specs.Blocks.{Part}
 use Rattle.format.specs.PairFind.{ofFirst, ofSecond}
 use Rattle.sector.specs.As.{asHome}
 use Rattle.reader.specs.Finding.{asWanted}

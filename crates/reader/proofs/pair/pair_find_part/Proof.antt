@@ -2,7 +2,7 @@
 use mathlib.Core.Path.{sym, ap, _∙_}
 use Rattle.format.specs.Answer.{Answer}
 use Rattle.format.specs.Judged.{Judged, refused}
-use Rattle.format.specs.Find.{Part}
+use Rattle.format.specs.Blocks.{Part}
 use Rattle.format.specs.PairFind.{ofFirst}
 use Rattle.reader.specs.Finding.{asWanted}
 use Rattle.reader.proofs.FindPair.{pair-refused, pair-none, pair-second, pair-first}

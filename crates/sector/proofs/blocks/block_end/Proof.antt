@@ -2,8 +2,8 @@
 use mathlib.Core.Path.{sym, _∙_}
 use native.Mathlib.Omega.{arith}
 use borrow.Author.Tests.{eq-eqb, ne-eqb}
-use Rattle.format.specs.Block.{dataSize, blockEnd}
-use Rattle.sector.proofs.Block.{offset-lt}
+use Rattle.format.specs.Block.{blockEnd}
+use Rattle.format.proofs.Sector.BlockEnd.{offset-lt}
 use borrow.Author.Needs.{needs}
 use Rattle.sector.proofs.blocks.block_end.Statement.{statement}
 use Rattle.sector.proofs.blocks.block_end.Tie as tie
@@ -30,13 +30,13 @@ add-result-3 c =
     omega (arith, g 7, g 8, offset-lt (c .before .before .before .before .args .r .now) (omega (arith, g 6)))
 
 returns : tie.Need-returns
-unfolding dataSize blockEnd
+unfolding blockEnd
 returns c =
     let e = c .before .before .data-offset .ensures in
     rw (eq-eqb _ _ (sym (c .before .data-length .ensures) ∙ c .if1 .taken)) (omega arith)
 
 returns-2 : tie.Need-returns-2
-unfolding dataSize blockEnd
+unfolding blockEnd
 returns-2 c =
     let e = c .before .data-length .ensures in
     let k = c .before .before .data-offset .ensures in

@@ -5,7 +5,8 @@ use native.Mathlib.Omega.{arith}
 use lib.ListN.{length}
 use lib.Dec.{leb}
 use Rattle.format.specs.Block.{blocksFit}
-use Rattle.sector.proofs.Block.{end-lt, gap-le}
+use Rattle.sector.proofs.Block.{gap-le}
+use Rattle.format.proofs.Sector.BlockEnd.{end-lt}
 use borrow.Author.Needs.{needs}
 use Rattle.sector.proofs.blocks.blocks_fit.Statement.{statement}
 use Rattle.sector.proofs.blocks.blocks_fit.Tie as tie

@@ -1,0 +1,98 @@
+-- The key or the data block in what follows a count's opening, whichever is asked for: its offset, length and test, and what its judgement tells.
+use mathlib.Core.Path.{_≡_, refl, sym, ap, _∙_}
+use Prim.Native.Nat.{ℕ, _+_, _≤_}
+use native.Mathlib.Omega.{arith}
+use mathlib.Core.Bool.{Bool, true, false}
+use mathlib.Core.List.{List}
+use lib.ListN.{length, drop}
+use lib.Dec.{eqb}
+use Rattle.format.specs.Answer.{Answer, keyWrong, dataWrong, spanTooShort}
+use Rattle.format.specs.Judged.{good, require, answerOf}
+use Rattle.format.specs.Count.{keyLength, dataLength}
+use Rattle.format.specs.Block.{keyOffset, dataOffset, blocksFit, blockRight, keyRight, dataRight, keyInfo, dataInfo}
+use Rattle.format.specs.Blocks.{Wanted, theKey, theData, Part, partAt, blocksAt, wantedPart, judgeFit}
+use Rattle.format.proofs.Base.Judged.{good-inj, require-good, require-zero}
+use Rattle.format.proofs.Sector.Sizes.{gap-least}
+use Rattle.format.proofs.Sector.BlockEnd.{key-in-offset, data-in-end, end-in-span}
+
+-- Where the key or the data block opens behind the count's opening, of which r is what follows.
+abbrev pub offsetOf : Wanted → List ℕ → ℕ
+offsetOf theKey r = keyOffset
+offsetOf theData r = dataOffset r
+
+-- Its length by the count.
+abbrev pub lengthOf : Wanted → List ℕ → ℕ
+lengthOf theKey r = keyLength r
+lengthOf theData r = dataLength r
+
+-- Its information.
+abbrev pub infoOf : Wanted → List ℕ → List ℕ
+infoOf theKey r = keyInfo r
+infoOf theData r = dataInfo r
+
+-- Its test.
+abbrev pub rightOf : Wanted → List ℕ → Bool
+rightOf theKey r = keyRight r
+rightOf theData r = dataRight r
+
+-- The answer that refuses it at place p.
+abbrev pub wrongAt : Wanted → ℕ → Answer
+wrongAt theKey p = keyWrong p
+wrongAt theData p = dataWrong p
+
+-- That answer has a number of the table that is not 0, and the place p.
+pub wrong-row : (w : Wanted) (p : ℕ) → (1 ≤ wrongAt w p .number) × (wrongAt w p .number ≤ 16) × (wrongAt w p .place ≡ p)
+wrong-row theKey p = (omega arith, omega arith, refl)
+wrong-row theData p = (omega arith, omega arith, refl)
+
+-- The block asked for ends in what follows the opening.
+pub block-fits : (w : Wanted) (last : Bool) (r : List ℕ) → blocksFit last r ≡ true → offsetOf w r + 6 + lengthOf w r + 3 ≤ length r
+block-fits theKey last r e = omega (arith, end-in-span r last e, key-in-offset r, data-in-end r, gap-least last)
+block-fits theData last r e = omega (arith, end-in-span r last e, data-in-end r, gap-least last)
+
+-- A test of a block with some information is that of its opening, information, check and closing byte.
+pub right-block : (w : Wanted) (r : List ℕ) → rightOf w r ≡ true → eqb (lengthOf w r) 0 ≡ false → blockRight (lengthOf w r) (drop (offsetOf w r) r) ≡ true
+unfolding keyRight dataRight
+right-block theKey r e z = rw z at e
+right-block theData r e z = rw z at e
+
+-- The blocks and the least gap fit where they are judged so.
+pub fit-good : (p : ℕ) (last : Bool) (r : List ℕ) (u : Unit {0}) → judgeFit p last r ≡ good u → blocksFit last r ≡ true
+unfolding judgeFit
+fit-good p last r u e = require-good (blocksFit last r) (spanTooShort p) (good tt) u e .0
+
+-- They are judged so where the answer is 0.
+pub fit-zero : (p : ℕ) (last : Bool) (r : List ℕ) → answerOf (judgeFit p last r) .number ≡ 0 → judgeFit p last r ≡ good tt
+unfolding judgeFit
+fit-zero p last r e = rw (require-zero (blocksFit last r) (spanTooShort p) (good tt) (λ q. omega arith) e .0)
+
+-- The block asked for in r, which follows a count's opening from place q on.
+module _ (w : Wanted) (q : ℕ) (r : List ℕ) where
+  -- The part that its information takes.
+  abbrev pub partIn : Part
+  partIn = partAt (q + offsetOf w r + 6) (lengthOf w r)
+
+  -- It is judged by its test.
+  pub part-judged : wantedPart w (blocksAt q r) ≡ require (rightOf w r) (wrongAt w (q + offsetOf w r)) (good partIn)
+  unfolding blocksAt
+  part-judged = go w
+    where
+      go : (v : Wanted) → wantedPart v (blocksAt q r) ≡ require (rightOf v r) (wrongAt v (q + offsetOf v r)) (good (partAt (q + offsetOf v r + 6) (lengthOf v r)))
+      go theKey = refl
+      go theData = refl
+
+  -- Where the test holds it is found.
+  pub part-right : rightOf w r ≡ true → wantedPart w (blocksAt q r) ≡ good partIn
+  part-right e = part-judged ∙ rw e
+
+  -- Where it is found the test holds.
+  pub part-good : (part : Part) → wantedPart w (blocksAt q r) ≡ good part → (rightOf w r ≡ true) × (partIn ≡ part)
+  part-good part e =
+      let a = require-good (rightOf w r) (wrongAt w (q + offsetOf w r)) (good partIn) part (sym part-judged ∙ e) in
+      (a .0, good-inj partIn part (a .1))
+
+  -- It is found where the answer is 0.
+  pub part-zero : answerOf (wantedPart w (blocksAt q r)) .number ≡ 0 → wantedPart w (blocksAt q r) ≡ good partIn
+  part-zero e =
+      let n = ap (λ j. answerOf j .number) part-judged in
+      part-right (require-zero (rightOf w r) (wrongAt w (q + offsetOf w r)) (good partIn) (λ z. omega (arith, wrong-row w (q + offsetOf w r))) (sym n ∙ e) .0)

@@ -1,0 +1,47 @@
+-- What follows a count's opening as one value: each block with the answer that refuses it, and where the blocks end.
+use Prim.Native.Nat.{ℕ, _+_}
+use mathlib.Core.Bool.{Bool}
+use mathlib.Core.List.{List}
+use lib.Dec.{eqb}
+use Rattle.base.specs.Pick.{pick}
+use Rattle.format.specs.Answer.{spanTooShort, keyWrong, dataWrong}
+use Rattle.format.specs.Judged.{Judged, good, require}
+use Rattle.format.specs.Count.{keyLength, dataLength}
+use Rattle.format.specs.Block.{keyOffset, dataOffset, blockEnd, blocksFit, keyRight, dataRight}
+
+-- A part of the lent track.
+pub record Part : Type 0 where
+  pub start : ℕ
+  pub size : ℕ
+
+-- The part of n bytes from place p on; an empty part may lie anywhere and is put at 0.
+unfoldable pub partAt : ℕ → ℕ → Part
+partAt p n = record { start = pick (eqb n 0) 0 p; size = n }
+
+-- What follows a count's opening: the key and the data block, each as the part that its information takes or the answer that refuses it, and the place at which the data block ends.
+pub record Blocks : Type 0 where
+  pub key : Judged Part
+  pub body : Judged Part
+  pub end : ℕ
+
+-- The blocks in r, which follows a count's opening from place q on: 10 for the key, 11 for the data block, each at the place where it opens.
+unfoldable pub blocksAt : ℕ → List ℕ → Blocks
+blocksAt q r =
+    record {
+      key = require (keyRight r) (keyWrong (q + keyOffset)) (good (partAt (q + keyOffset + 6) (keyLength r)));
+      body = require (dataRight r) (dataWrong (q + dataOffset r)) (good (partAt (q + dataOffset r + 6) (dataLength r)));
+      end = q + blockEnd r;
+    }
+
+-- Which part of a sector is asked for.
+pub data Wanted : Type 0 where
+  theKey theData : Wanted
+
+-- The block that is asked for.
+abbrev pub wantedPart : Wanted → Blocks → Judged Part
+wantedPart theKey b = b .key
+wantedPart theData b = b .body
+
+-- The blocks of the count at p, where `last` says that the span runs to index: 9 where they and the least gap do not lie in it.
+unfoldable pub judgeFit : ℕ → Bool → List ℕ → Judged (Unit {0})
+judgeFit p last r = require (blocksFit last r) (spanTooShort p) (good tt)
