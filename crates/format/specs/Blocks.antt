@@ -4,6 +4,7 @@ use mathlib.Core.Bool.{Bool}
 use mathlib.Core.List.{List}
 use lib.Dec.{eqb}
 use Rattle.base.specs.Pick.{pick}
+use Rattle.format.specs.Layout.{plainLength}
 use Rattle.format.specs.Answer.{spanTooShort, keyWrong, dataWrong}
 use Rattle.format.specs.Judged.{Judged, good, require}
 use Rattle.format.specs.Count.{keyLength, dataLength}
@@ -28,8 +29,8 @@ pub record Blocks : Type 0 where
 unfoldable pub blocksAt : ℕ → List ℕ → Blocks
 blocksAt q r =
     record {
-      key = require (keyRight r) (keyWrong (q + keyOffset)) (good (partAt (q + keyOffset + 6) (keyLength r)));
-      body = require (dataRight r) (dataWrong (q + dataOffset r)) (good (partAt (q + dataOffset r + 6) (dataLength r)));
+      key = require (keyRight r) (keyWrong (q + keyOffset)) (good (partAt (q + keyOffset + plainLength) (keyLength r)));
+      body = require (dataRight r) (dataWrong (q + dataOffset r)) (good (partAt (q + dataOffset r + plainLength) (dataLength r)));
       end = q + blockEnd r;
     }
 

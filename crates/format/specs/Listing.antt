@@ -4,6 +4,7 @@ use mathlib.Core.List.{List, map}
 use lib.ListN.{length}
 use lib.Dec.{leb, eqb}
 use Rattle.base.specs.Pick.{pick}
+use Rattle.format.specs.Layout.{plainLength}
 use Rattle.format.specs.Answer.{lentWrong}
 use Rattle.format.specs.Judged.{Judged, good, then, require}
 use Rattle.format.specs.Block.{keyOffset, keySize}
@@ -22,7 +23,7 @@ pub record Listed : Type 0 where
 
 -- The place of the first block's information, behind the count's opening, the count, a gap and its own opening.
 abbrev pub firstInfoPlace : Placed → ℕ
-firstInfoPlace x = x .place + openingLength (x .sector .first) + keyOffset + 6
+firstInfoPlace x = x .place + openingLength (x .sector .first) + keyOffset + plainLength
 
 -- The record of a sector.
 unfoldable pub listed : Placed → Listed

@@ -5,7 +5,7 @@ use mathlib.Core.List.{List, [], _∷_, _++_}
 use lib.ListN.{length, replicate}
 use lib.Dec.{leb, eqb}
 use Rattle.base.specs.Pick.{pick}
-use Rattle.format.specs.Layout.{gapLength}
+use Rattle.format.specs.Layout.{gapLength, blockFrame, emptyBlock}
 use Rattle.format.specs.Answer.{Answer, done, roomMissing}
 use Rattle.format.specs.Judged.{Judged, good, refused, then, require}
 use Rattle.format.specs.Lent.{bytesOf, marksOf}
@@ -47,7 +47,7 @@ writtenData xs = pick (none xs) (plainOpening ++ 0x00 ∷ []) (writtenBlock xs)
 
 -- What a written data block of n bytes takes: opening, information, check and closing byte; if n = 0 the opening and one 00.
 unfoldable pub dataSize : ℕ → ℕ
-dataSize n = pick (eqb n 0) 7 (n + 9)
+dataSize n = pick (eqb n 0) emptyBlock (n + blockFrame)
 
 -- The opening of a count.
 unfoldable pub countOpening : Bool → List ℕ
