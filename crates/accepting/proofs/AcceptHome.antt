@@ -12,7 +12,7 @@ use Rattle.format.proofs.Track.Pairs.{length-bytes}
 use Rattle.sector.proofs.Opening.{closed-short}
 use Rattle.accepting.specs.declared.home.HomeJudged.{HomeJudged}
 use Rattle.accepting.specs.declared.home.HomeJudged.the-variants.{Right, Refused}
-use Rattle.accepting.specs.Accepting.{homeStandsAt, homeInWindow}
+use Rattle.accepting.specs.Accepting.{homeStartsAt, homeInWindow}
 use Rattle.accepting.proofs.AcceptBytes.{taken-bytes}
 
 -- No home was found.
@@ -47,6 +47,6 @@ unfolding homeOf
 place-of p r = refl
 
 -- It stands in the window where it was found.
-pub in-window : (p : ℕ) (j : HomeJudged) → homeStandsAt p j → (23 ≤ p) × (p ≤ 37) → homeInWindow j
+pub in-window : (p : ℕ) (j : HomeJudged) → homeStartsAt p j → (23 ≤ p) × (p ≤ 37) → homeInWindow j
 in-window p (Right h) e w = (omega arith, omega arith)
 in-window p (Refused a) e w = tt

@@ -25,9 +25,9 @@ judgedHome (Right h) = good (asHome h)
 judgedHome (Refused a) = refused (asAnswer a)
 
 -- A home that is right starts at place p.
-abbrev pub homeStandsAt : ℕ → HomeJudged → Type 0
-homeStandsAt p (Right h) = h .place ≡ p
-homeStandsAt p (Refused a) = Unit {0}
+abbrev pub homeStartsAt : ℕ → HomeJudged → Type 0
+homeStartsAt p (Right h) = h .place ≡ p
+homeStartsAt p (Refused a) = Unit {0}
 
 -- A home that is right starts in its window, 23 to 37.
 abbrev pub homeInWindow : HomeJudged → Type 0

@@ -3,7 +3,7 @@ ghost use mathlib.Core.Path.{_≡_};
 ghost use Rattle.format.specs.Lent.{cells};
 ghost use Rattle.format.specs.Home.{homeOf, judgeHomeOf, judgeHome};
 ghost use Rattle.sector.specs.As.{asHome};
-ghost use Rattle.accepting.specs.Accepting.{judgedHome, homeStandsAt, homeInWindow};
+ghost use Rattle.accepting.specs.Accepting.{judgedHome, homeStartsAt, homeInWindow};
 use format::layout::HOME;
 use format::layout::HOME_INFO;
 use format::layout::PLAIN;
@@ -31,7 +31,7 @@ fn home_of(p: usize, r: &[u8]) -> Home
 // The judgement of home at p by the bytes r that follow its opening: 3, then 4.
 fn judge_fields(p: usize, r: &[u8]) -> HomeJudged
     ensures { λ j. ⌜ judgedHome j ≡ judgeHomeOf p (now (r .entry)) ⌝ }
-    ensures { λ j. ⌜ homeStandsAt p j ⌝ }
+    ensures { λ j. ⌜ homeStartsAt p j ⌝ }
 {
     if sector::closed_after(r, HOME_INFO) {
         let h = home_of(p, r);

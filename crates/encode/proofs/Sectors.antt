@@ -15,7 +15,7 @@ use Rattle.format.specs.Written.{homeGap, innerGap, countInfo, writtenBlock, wr
 use Rattle.format.specs.Blank.{writtenHead}
 use Rattle.format.proofs.Cells.Opening.{unmarked-append, unmarked-replicate}
 use Rattle.format.proofs.Cells.Field.{unmarked-block, length-closing}
-use Rattle.format.proofs.Sector.Standing.{FitsCount, info-unmarked}
+use Rattle.format.proofs.Sector.Valid.{FitsCount, info-unmarked}
 use Rattle.format.proofs.Sector.WrittenRest.{writtenRest, written-form, rest-unmarked, length-rest}
 use Rattle.format.proofs.Sector.ReadBack.{length-written, length-written as sector-length}
 use Rattle.format.proofs.Track.Pairs.{bytes-unmarked}

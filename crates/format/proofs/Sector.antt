@@ -4,7 +4,7 @@ pub mod BlockEnd
 pub mod BlocksJudged
 pub mod ReadSector
 pub mod WrittenRest
-pub mod Standing
+pub mod Valid
 pub mod ReadBack
 pub mod ReadsAs
 pub mod ReadPrefix

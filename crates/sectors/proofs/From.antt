@@ -22,8 +22,8 @@ use Rattle.format.proofs.Spans.Cutting.{joined-spans}
 use Rattle.format.proofs.Track.HomeLocal.{home-window}
 use Rattle.format.proofs.Spans.SpanAgrees.{span-agrees}
 use Rattle.format.proofs.Sector.ReadSector.{behindOpening, read-inv, span-least}
-use Rattle.format.proofs.Sector.Standing.{FitsCount, info-fits}
-use Rattle.format.proofs.Sector.ReadBack.{read-stands}
+use Rattle.format.proofs.Sector.Valid.{FitsCount, info-fits}
+use Rattle.format.proofs.Sector.ReadBack.{read-valid}
 use Rattle.format.proofs.Sector.ReadsAs.{Reads, accepted-by}
 use Rattle.format.proofs.Track.AcceptedSpans.{accepted-track}
 use Rattle.format.proofs.Track.Pairs.{length-cells, accepted-pair, lent-marks, lent-length}
@@ -49,7 +49,7 @@ span-steps t m h i x p g gs s e k c d l w =
     let n = span-least h i x (none gs) g s v in
     let a = span-agrees i g gs k c (omega arith) in
     let u = and-both (cleanSpan i g) (cleanSpans (suc i) gs) c in
-    let f : FitsCount s = info-fits s (read-stands h i x p (none gs) g s (u .0) e .count-bytes) in
+    let f : FitsCount s = info-fits s (read-valid h i x p (none gs) g s (u .0) e .count-bytes) in
     subst (λ (z : Sector). Stepping t m p (isFirst i) (record { place = p; span = g; sector = z }) (none gs)) (sym (v .sector-is))
     (stepping-made t m (isFirst i) p g (none gs) r refl
     (ap (spanLength o) d ∙ a .0)

@@ -21,7 +21,7 @@ use Rattle.base.proofs.Tests.{cases}
 use Rattle.format.proofs.Sector.Sizes.{gap-least}
 use Rattle.format.proofs.Sector.BlockEnd.{offset-is, key-in-offset, data-in-end, written-in-end, end-in-span}
 use Rattle.format.proofs.Sector.ReadSector.{fit-key, fit-data}
-use Rattle.format.proofs.Sector.Standing.{FitsCount}
+use Rattle.format.proofs.Sector.Valid.{FitsCount}
 use Rattle.sectors.specs.Stepped.{Stepped, steppedIn, restAt, steppedAt, addressAt}
 use Rattle.sectors.proofs.Rest.{opening-least, after-place, stepped-here}
 use Rattle.format.specs.Blocks.{blocksAt}

@@ -10,7 +10,7 @@ use Rattle.format.specs.Lent.{bytesOf, unmarked}
 use Rattle.format.specs.Sector.{Sector}
 use Rattle.format.specs.Written.{innerGap, writtenKey, writtenData, writtenSector, sectorSize}
 use Rattle.format.proofs.Cells.Field.{length-key}
-use Rattle.format.proofs.Sector.Standing.{FitsCount}
+use Rattle.format.proofs.Sector.Valid.{FitsCount}
 use Rattle.encode.specs.Room.{sectorFrom}
 use Rattle.encode.specs.Bytes.{countBytes}
 use Rattle.encode.proofs.Laid.{laid-as, laid-next}

@@ -7,7 +7,7 @@ use borrow.Author.Needs.{needs}
 use Rattle.format.specs.Lent.{marksOf, unmarked}
 use Rattle.format.specs.Sector.{Sector}
 use Rattle.format.specs.Written.{writtenSector, sectorSize}
-use Rattle.format.proofs.Sector.Standing.{FitsCount}
+use Rattle.format.proofs.Sector.Valid.{FitsCount}
 use Rattle.encode.specs.Room.{sectorFrom}
 use Rattle.encode.proofs.Laid.{laid-as}
 use Rattle.encode.proofs.Room.{first-short, second-short}

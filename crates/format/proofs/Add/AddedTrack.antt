@@ -19,18 +19,18 @@ use Rattle.format.specs.Sector.{Sector, contentRight}
 use Rattle.format.specs.Accept.{Placed, placedFrom, among, Accepted, acceptCells, endOf, fromNumber, sectorsOf}
 use Rattle.format.specs.Written.{writtenSector, gapAfter, writtenBehind}
 use Rattle.format.specs.Add.{judgeAbsent, addedFlag, addedSector, addedTo}
-use Rattle.format.proofs.Spans.Shape.{Stands, AllStand}
+use Rattle.format.proofs.Spans.Shape.{Valid, AllValid}
 use Rattle.format.proofs.Base.Judged.{good-inj, require-good}
 use Rattle.format.proofs.Track.HomeLocal.{home-local}
 use Rattle.format.proofs.Sector.ReadBack.{length-written, read-written, written-later, written-clean}
-use Rattle.format.proofs.Sector.ReadsAs.{Reads, length-reads, reads-stand, sectors-placed}
+use Rattle.format.proofs.Sector.ReadsAs.{Reads, length-reads, reads-valid, sectors-placed}
 use Rattle.format.proofs.Track.AcceptedSpans.{Track, acceptedOf, track-accepted}
 use Rattle.format.proofs.Track.TakenApart.{reads-reach}
 use Rattle.format.proofs.Track.Numbers.{Fresh, Absent, judged-fresh, fresh-placed, fresh-append, judged-absent}
 use Rattle.format.proofs.Track.SharedAddress.{AllName, all-name}
 use Rattle.format.proofs.Add.GrownSpans.{grown, none-grown, reads-grown, shape-grown, clean-grown, placedAt, lastPlaced, last-name, length-placed, end-in, joined-grown}
 use Rattle.format.proofs.Written.OneBehind.{gapToIndex, spanToIndex, behind-one, gap-behind, length-behind}
-use Rattle.format.proofs.Add.NewSector.{newSector, lastEnd, added-stands, added-to-is, addNeed, length-kept}
+use Rattle.format.proofs.Add.NewSector.{newSector, lastEnd, added-valid, added-to-is, addNeed, length-kept}
 
 -- The track e is the accepted track c with one more sector, n.
 abbrev pub Outcome : List ℕ → Accepted → Sector → List ℕ → Type 0
@@ -66,11 +66,11 @@ module _ (gap : ℕ → ℕ → ℕ) (least : (k d : ℕ) → 21 ≤ gap k d) (x
   abbrev kept : List ℕ
   kept = take (endOf last) c ++ replicate (gapAfter gap (last .sector)) 0xFF
 
-  stand : AllStand h 0 unsettled (o ∷ os)
-  stand = reads-stand h 0 unsettled p (g ∷ gs) (o ∷ os) (t .clean) (t .reads)
+  valid : AllValid h 0 unsettled (o ∷ os)
+  valid = reads-valid h 0 unsettled p (g ∷ gs) (o ∷ os) (t .clean) (t .reads)
 
   named : AllName (o .address) (o ∷ os)
-  named = all-name h o os stand
+  named = all-name h o os valid
 
   new-is : addedSector h (suc (length others)) last b7 s key body ≡ new
   unfolding addedSector newSector placedFrom
@@ -92,10 +92,10 @@ module _ (gap : ℕ → ℕ → ℕ) (least : (k d : ℕ) → 21 ≤ gap k d) (x
   end-inside : endOf last ≤ length c
   end-inside = omega (arith, end-in h 0 unsettled p g gs o os (t .reads), t .head-length, length-append xs (joined (g ∷ gs)))
 
-  new-stands : unmarked key ≡ true → unmarked body ≡ true → s < 256 → contentRight key body ≡ true → b7 ≤ 1
-      → Stands h (suc (length others)) (settled (o .address)) new
+  new-valid : unmarked key ≡ true → unmarked body ≡ true → s < 256 → contentRight key body ≡ true → b7 ≤ 1
+      → Valid h (suc (length others)) (settled (o .address)) new
   unfolding newSector placedFrom
-  new-stands uk ub n r hb = added-stands h (length others) o new b7 uk ub n r hb (stand .0) refl refl refl
+  new-valid uk ub n r hb = added-valid h (length others) o new b7 uk ub n r hb (valid .0) refl refl refl
 
   -- The span of the new sector.
   abbrev w : List ℕ
@@ -120,7 +120,7 @@ module _ (gap : ℕ → ℕ → ℕ) (least : (k d : ℕ) → 21 ≤ gap k d) (x
       (subst (Fresh []) old-sectors (judged-fresh [] (a .sectors) (t .numbers))) refl
       (subst (Absent s) old-sectors (judged-absent s (a .sectors) absent))
 
-  track-now : Stands h (suc (length others)) (settled (o .address)) new → judgeAbsent (fromNumber s (a .sectors)) ≡ good tt → length kept + length (writtenSector new) + 13 ≤ length c
+  track-now : Valid h (suc (length others)) (settled (o .address)) new → judgeAbsent (fromNumber s (a .sectors)) ≡ good tt → length kept + length (writtenSector new) + 13 ≤ length c
       → Track xs h spansNow ((o ∷ os) ++ new ∷ [])
   unfolding leastGap gapAfter
   track-now v absent room =
@@ -172,7 +172,7 @@ module _ (gap : ℕ → ℕ → ℕ) (least : (k d : ℕ) → 21 ≤ gap k d) (x
       let q = require-good (leb need (length c)) roomMissing (good (xs ++ joined spansNow)) e (sym added-now ∙ f) in
       let room : need ≤ length c = leb-true need (length c) (q .0) in
       let enough : length kept + length (writtenSector new) + 13 ≤ length c = omega (arith, need-now) in
-      let b : Track xs h spansNow ((o ∷ os) ++ new ∷ []) = track-now (new-stands uk ub n r hb) absent enough in
+      let b : Track xs h spansNow ((o ∷ os) ++ new ∷ []) = track-now (new-valid uk ub n r hb) absent enough in
       let now : List Sector = (o ∷ os) ++ new ∷ [] in
       subst (Outcome c a new) (good-inj (xs ++ joined spansNow) e (q .1)) (
         acceptedOf h spansNow now,

@@ -18,8 +18,8 @@ use Rattle.format.specs.Sector.{Sector, contentRight}
 use Rattle.format.specs.Accept.{Placed, Accepted, endOf, lastOf}
 use Rattle.format.specs.Written.{writtenSector, sectorSize, gapAfter, writtenBehind}
 use Rattle.format.specs.Add.{addedFlag, addedSector, addedTo}
-use Rattle.format.proofs.Spans.Shape.{Stands}
-use Rattle.format.proofs.Sector.Standing.{info-fits}
+use Rattle.format.proofs.Spans.Shape.{Valid}
+use Rattle.format.proofs.Sector.Valid.{info-fits}
 use Rattle.format.proofs.Sector.CountRight.{count-unmarked, added-flag, added-flag-small}
 use Rattle.format.proofs.Track.SharedAddress.{sharedAddress, same-self}
 use Rattle.format.proofs.Sector.ReadBack.{length-written}
@@ -43,11 +43,11 @@ newSector a b7 s key body =
     }
 
 -- A sector behind others can stand, where its fields are within the rule.
-pub added-stands : (h : Home) (i : ℕ) (o n : Sector) (b7 : ℕ) → unmarked (n .keyBytes) ≡ true → unmarked (n .dataBytes) ≡ true → n .number < 256
-    → contentRight (n .keyBytes) (n .dataBytes) ≡ true → b7 ≤ 1 → Stands h 0 unsettled o
-    → n .first ≡ false → n .flag ≡ addedFlag (h .flag) (suc i) b7 → n .address ≡ o .address → Stands h (suc i) (settled (o .address)) n
+pub added-valid : (h : Home) (i : ℕ) (o n : Sector) (b7 : ℕ) → unmarked (n .keyBytes) ≡ true → unmarked (n .dataBytes) ≡ true → n .number < 256
+    → contentRight (n .keyBytes) (n .dataBytes) ≡ true → b7 ≤ 1 → Valid h 0 unsettled o
+    → n .first ≡ false → n .flag ≡ addedFlag (h .flag) (suc i) b7 → n .address ≡ o .address → Valid h (suc i) (settled (o .address)) n
 unfolding countAddressRight
-added-stands h i o n b7 uk ub l c hb v f fl ad =
+added-valid h i o n b7 uk ub l c hb v f fl ad =
     let fits = info-fits o (v .count-bytes) in
     let flag : n .flag < 256 = omega (arith, fl, added-flag-small (h .flag) (suc i) b7 hb) in
     let cylinder : n .address .cylinder < 65536 = omega (arith, fits .cylinder-fits, ap (λ (z : Address). z .cylinder) ad) in

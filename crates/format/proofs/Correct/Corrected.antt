@@ -13,12 +13,12 @@ use Rattle.format.specs.Sector.{Sector, contentRight}
 use Rattle.format.specs.Accept.{Placed, placedFrom, judgeNumbers, fromNumber, sectorsOf}
 use Rattle.format.specs.Correct.{rewrittenFrom, correctCells}
 use Rattle.format.specs.Together.{Correction, replacedBy, leftPlace, withBoth, corrected, fitTogether, writtenTogether, together}
-use Rattle.format.proofs.Spans.Shape.{AllStand}
+use Rattle.format.proofs.Spans.Shape.{AllValid}
 use Rattle.format.proofs.Base.Judged.{good-inj, refused-good, require-good}
 use Rattle.base.proofs.Tests.{cases}
 use Rattle.format.proofs.Track.HomeLocal.{home-local}
-use Rattle.format.proofs.Sector.ReadsAs.{length-reads, reads-stand, sectors-placed}
-use Rattle.format.proofs.Correct.Replaced.{Bytes, named, namedEither, replaced-named, replaced-numbers, replaced-stand}
+use Rattle.format.proofs.Sector.ReadsAs.{length-reads, reads-valid, sectors-placed}
+use Rattle.format.proofs.Correct.Replaced.{Bytes, named, namedEither, replaced-named, replaced-numbers, replaced-valid}
 use Rattle.format.proofs.Correct.Relaid.{anyHit, relaid, room, length-relaid}
 use Rattle.format.proofs.Correct.RelaidReads.{shape-relaid, none-relaid, clean-relaid, relaid-reaches, reads-relaid}
 use Rattle.format.proofs.Track.AcceptedSpans.{Track, track-accepted, track-sectors, same-numbers}
@@ -118,7 +118,7 @@ module _ (gap : ℕ → ℕ → ℕ) (head : List ℕ) (h : Home) (gs : List (Li
   done-track least a d b r =
       let new : List Sector = map (replacedBy a) ss in
       let ks : List (List ℕ) = relaid gap (named a) gs new in
-      let v : AllStand h 0 unsettled new = replaced-stand a b (r .content) h 0 unsettled ss (reads-stand h 0 unsettled start gs ss (t .clean) (t .reads)) in
+      let v : AllValid h 0 unsettled new = replaced-valid a b (r .content) h 0 unsettled ss (reads-valid h 0 unsettled start gs ss (t .clean) (t .reads)) in
       let reads = reads-relaid gap least a h 0 unsettled start gs ss (t .reads) v (r .enough) in
       record {
         head-length = t .head-length;

@@ -11,7 +11,7 @@ use Rattle.format.specs.Span.{joined, none, cleanSpan, cleanSpans}
 use Rattle.format.specs.Sector.{Sector, settle}
 use Rattle.format.specs.Written.{reach, writtenSpans}
 use Rattle.format.specs.Together.{Correction, replacedBy}
-use Rattle.format.proofs.Spans.Shape.{Shape, FirstReaches, AllStand}
+use Rattle.format.proofs.Spans.Shape.{Shape, FirstReaches, AllValid}
 use Rattle.base.proofs.Tests.{cases, false-true, and-both, and-make}
 use Rattle.format.proofs.Sector.ReadsAs.{Reads}
 use Rattle.format.proofs.Written.WrittenSpans.{shape-written-spans, clean-written-spans, first-written-reaches, reads-written-spans}
@@ -20,7 +20,7 @@ use Rattle.format.proofs.Correct.Relaid.{relaid, room}
 
 module _ (gap : ℕ → ℕ → ℕ) where
   -- The spans keep the shape of spans.
-  pub shape-relaid : (hit : Sector → Bool) (h : Home) (i : ℕ) (x : Settled) (gs : List (List ℕ)) (ss : List Sector) → Shape i gs → AllStand h i x ss
+  pub shape-relaid : (hit : Sector → Bool) (h : Home) (i : ℕ) (x : Settled) (gs : List (List ℕ)) (ss : List Sector) → Shape i gs → AllValid h i x ss
       → Shape i (relaid gap hit gs ss)
   unfolding relaid
   shape-relaid hit h i x [] ss k v = k
@@ -42,7 +42,7 @@ module _ (gap : ℕ → ℕ → ℕ) where
   none-relaid hit (g ∷ gs) (s ∷ ss) = cases (hit s) (λ e. rw e) (λ e. rw e)
 
   -- They carry no stray mark.
-  pub clean-relaid : (hit : Sector → Bool) (h : Home) (i : ℕ) (x : Settled) (gs : List (List ℕ)) (ss : List Sector) → cleanSpans i gs ≡ true → AllStand h i x ss
+  pub clean-relaid : (hit : Sector → Bool) (h : Home) (i : ℕ) (x : Settled) (gs : List (List ℕ)) (ss : List Sector) → cleanSpans i gs ≡ true → AllValid h i x ss
       → cleanSpans i (relaid gap hit gs ss) ≡ true
   unfolding relaid cleanSpans
   clean-relaid hit h i x [] ss c v = c
@@ -70,7 +70,7 @@ module _ (gap : ℕ → ℕ → ℕ) where
 
   -- After a correction that has room the spans read as the corrected sectors.
   pub reads-relaid : ((k d : ℕ) → 21 ≤ gap k d) → (a : Correction) (h : Home) (i : ℕ) (x : Settled) (p : ℕ) (gs : List (List ℕ)) (ss : List Sector)
-      → Reads h i x p gs ss → AllStand h i x (map (replacedBy a) ss) → room gap (named a) gs (map (replacedBy a) ss) ≡ true
+      → Reads h i x p gs ss → AllValid h i x (map (replacedBy a) ss) → room gap (named a) gs (map (replacedBy a) ss) ≡ true
       → Reads h i x p (relaid gap (named a) gs (map (replacedBy a) ss)) (map (replacedBy a) ss)
   unfolding relaid room
   reads-relaid least a h i x p [] [] e v r = tt
@@ -79,7 +79,7 @@ module _ (gap : ℕ → ℕ → ℕ) where
   reads-relaid least a h i x p (g ∷ gs) (s ∷ ss) e v r =
       let new : List Sector = map (replacedBy a) (s ∷ ss) in
       let n : ℕ = length (joined (g ∷ gs)) in
-      let w : AllStand h (suc i) (settle x s) (map (replacedBy a) ss) = rw (replaced-settle a x s) at (v .1) in
+      let w : AllValid h (suc i) (settle x s) (map (replacedBy a) ss) = rw (replaced-settle a x s) at (v .1) in
       let r₁ = rw (replaced-named a a s) at r in
       rw (replaced-named a a s)
       (cases (named a s)

@@ -11,9 +11,9 @@ use Rattle.format.specs.Count.{Settled}
 use Rattle.format.specs.Sector.{Sector, settle, contentRight}
 use Rattle.format.specs.Correct.{withContent}
 use Rattle.format.specs.Together.{Correction, replacedBy, withBoth}
-use Rattle.format.proofs.Spans.Shape.{AllStand}
+use Rattle.format.proofs.Spans.Shape.{AllValid}
 use Rattle.base.proofs.Tests.{cases}
-use Rattle.format.proofs.Sector.ReadBack.{content-stands, content-settle}
+use Rattle.format.proofs.Sector.ReadBack.{content-valid, content-settle}
 
 -- The key and the data that a correction brings are bytes.
 pub record Bytes (a : Correction) : Type 0 where
@@ -63,14 +63,14 @@ replaced-settle a x s =
     cases (named a s) (λ e. rw (replaced-one a s e) (content-settle x s (a .key) (a .body))) (λ e. rw (replaced-other a s e))
 
 -- Sectors that can stand can stand after a correction within the rule.
-pub replaced-stand : (a : Correction) → Bytes a → contentRight (a .key) (a .body) ≡ true
-    → (h : Home) (i : ℕ) (x : Settled) (ss : List Sector) → AllStand h i x ss → AllStand h i x (map (replacedBy a) ss)
-replaced-stand a b c h i x [] v = tt
-replaced-stand a b c h i x (s ∷ ss) v = (
+pub replaced-valid : (a : Correction) → Bytes a → contentRight (a .key) (a .body) ≡ true
+    → (h : Home) (i : ℕ) (x : Settled) (ss : List Sector) → AllValid h i x ss → AllValid h i x (map (replacedBy a) ss)
+replaced-valid a b c h i x [] v = tt
+replaced-valid a b c h i x (s ∷ ss) v = (
   cases (named a s)
-      (λ e. rw (replaced-one a s e) (content-stands h i x s (a .key) (a .body) (v .0) c (b .key) (b .body)))
+      (λ e. rw (replaced-one a s e) (content-valid h i x s (a .key) (a .body) (v .0) c (b .key) (b .body)))
       (λ e. rw (replaced-other a s e) (v .0)),
-  rw (replaced-settle a x s) (replaced-stand a b c h (suc i) (settle x s) ss (v .1)),
+  rw (replaced-settle a x s) (replaced-valid a b c h (suc i) (settle x s) ss (v .1)),
 )
 
 -- Of two corrections of different number only one names a sector.

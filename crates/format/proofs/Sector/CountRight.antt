@@ -13,7 +13,7 @@ use Rattle.format.specs.Sector.{Sector, contentRight}
 use Rattle.format.specs.Written.{countInfo}
 use Rattle.format.specs.Add.{addedFlag}
 use Rattle.base.proofs.Tests.{cases, and-both}
-use Rattle.format.proofs.Sector.Standing.{info-unmarked}
+use Rattle.format.proofs.Sector.Valid.{info-unmarked}
 
 -- An address that counts may name is in range.
 pub right-in-range : (f : ℕ) (own a : Address) → addressInRange own ≡ true → addressRight f own a ≡ true → addressInRange a ≡ true

@@ -17,13 +17,13 @@ use Rattle.format.specs.Span.{laterSpans, cleanSpan}
 use Rattle.format.specs.Sector.{Sector, openingLength, isFirst, sectorIn, readSpan, settle, contentRight}
 use Rattle.format.specs.Written.{countOpening, writtenSector, sectorSize}
 use Rattle.format.specs.Correct.{withContent}
-use Rattle.format.proofs.Spans.Shape.{Stands}
+use Rattle.format.proofs.Spans.Shape.{Valid}
 use Rattle.base.proofs.Tests.{and-both, and-make}
 use Rattle.format.proofs.Sector.ReadSector.{ReadAs, behindOpening, read-inv, read-make}
 use Rattle.format.proofs.Cells.Opening.{unmarked-replicate}
 use Rattle.format.proofs.Spans.Cutting.{later-unmarked, later-opening}
 use Rattle.format.proofs.Spans.SpanAgrees.{clean-behind}
-use Rattle.format.proofs.Sector.Standing.{info-unmarked, info-fits, sector-stands}
+use Rattle.format.proofs.Sector.Valid.{info-unmarked, info-fits, sector-valid}
 use Rattle.format.proofs.Sector.WrittenRest.{writtenRest, written-form, length-rest, rest-flag, rest-address, rest-fits, rest-closed, rest-blocks-fit, rest-key-right, rest-data-right, rest-sector, rest-unmarked}
 
 length-opening : (first : Bool) → length (countOpening first) ≡ openingLength first
@@ -42,7 +42,7 @@ length-written s =
 written-at : (i : ℕ) (s : Sector) (R : List ℕ) → s .first ≡ isFirst i → writtenSector s ++ R ≡ countOpening (isFirst i) ++ writtenRest s R
 written-at i s R e = written-form s R ∙ ap (λ (b : Bool). countOpening b ++ writtenRest s R) e
 
-rest-fields : (h : Home) (i : ℕ) (x : Settled) (s : Sector) (R : List ℕ) → Stands h i x s → countFieldsRight h i x (writtenRest s R) ≡ true
+rest-fields : (h : Home) (i : ℕ) (x : Settled) (s : Sector) (R : List ℕ) → Valid h i x s → countFieldsRight h i x (writtenRest s R) ≡ true
 unfolding countFieldsRight
 rest-fields h i x s R v = rw (rest-flag s R, rest-address s R) (and-make (v .flag-right) (v .address-right))
 
@@ -56,7 +56,7 @@ unfolding countOpening
 first-opened zero r e = refl
 first-opened (suc i) r e = absurd (omega arith)
 
-rest-read : (h : Home) (i : ℕ) (x : Settled) (last : Bool) (s : Sector) (R : List ℕ) → Stands h i x s → leastGap last ≤ length R
+rest-read : (h : Home) (i : ℕ) (x : Settled) (last : Bool) (s : Sector) (R : List ℕ) → Valid h i x s → leastGap last ≤ length R
     → ReadAs h i x last (countOpening (isFirst i) ++ writtenRest s R) s
 rest-read h i x last s R v l =
     let e = behind-written i (writtenRest s R) in
@@ -72,48 +72,48 @@ rest-read h i x last s R v l =
     }
 
 -- A sector that can stand is read from what is written for it, followed by at least the least gap.
-pub read-written : (h : Home) (i : ℕ) (x : Settled) (p : ℕ) (last : Bool) (s : Sector) (m : ℕ) → Stands h i x s → leastGap last ≤ m
+pub read-written : (h : Home) (i : ℕ) (x : Settled) (p : ℕ) (last : Bool) (s : Sector) (m : ℕ) → Valid h i x s → leastGap last ≤ m
     → readSpan h i x p last (writtenSector s ++ replicate m 0xFF) ≡ good s
 read-written h i x p last s m v l =
     read-make h i x p last (writtenSector s ++ replicate m 0xFF) s
     (rw (written-at i s (replicate m 0xFF) (v .position)) (rest-read h i x last s (replicate m 0xFF) v (rw length-replicate l)))
 
-rest-bytes : (h : Home) (i : ℕ) (x : Settled) (s : Sector) (m : ℕ) → Stands h i x s → unmarked (writtenRest s (replicate m 0xFF)) ≡ true
+rest-bytes : (h : Home) (i : ℕ) (x : Settled) (s : Sector) (m : ℕ) → Valid h i x s → unmarked (writtenRest s (replicate m 0xFF)) ≡ true
 rest-bytes h i x s m v = rest-unmarked s (replicate m 0xFF) (v .count-bytes) (v .key-bytes) (v .data-bytes) (unmarked-replicate m 0xFF (lit< tt))
 
 -- In position 0 a written sector has no mark at all.
-written-unmarked : (h : Home) (x : Settled) (s : Sector) (m : ℕ) → Stands h 0 x s → unmarked (writtenSector s ++ replicate m 0xFF) ≡ true
+written-unmarked : (h : Home) (x : Settled) (s : Sector) (m : ℕ) → Valid h 0 x s → unmarked (writtenSector s ++ replicate m 0xFF) ≡ true
 unfolding countOpening unmarked
 written-unmarked h x s m v = rw (written-at 0 s (replicate m 0xFF) (v .position)) (rest-bytes h 0 x s m v)
 
 -- In position 0 it has no marked opening.
-pub written-first : (h : Home) (x : Settled) (s : Sector) (m : ℕ) → Stands h 0 x s → laterSpans (writtenSector s ++ replicate m 0xFF) ≡ []
+pub written-first : (h : Home) (x : Settled) (s : Sector) (m : ℕ) → Valid h 0 x s → laterSpans (writtenSector s ++ replicate m 0xFF) ≡ []
 written-first h x s m v = later-unmarked (writtenSector s ++ replicate m 0xFF) (written-unmarked h x s m v)
 
 -- Later it starts with its only one.
-pub written-later : (h : Home) (i : ℕ) (x : Settled) (s : Sector) (m : ℕ) → Stands h (suc i) x s
+pub written-later : (h : Home) (i : ℕ) (x : Settled) (s : Sector) (m : ℕ) → Valid h (suc i) x s
     → (opens (writtenSector s ++ replicate m 0xFF) ≡ true) × (laterSpans (writtenSector s ++ replicate m 0xFF) ≡ (writtenSector s ++ replicate m 0xFF) ∷ [])
 unfolding countOpening opens
 written-later h i x s m v =
     rw (written-at (suc i) s (replicate m 0xFF) (v .position)) (refl, later-opening (writtenRest s (replicate m 0xFF)) (rest-bytes h (suc i) x s m v))
 
 -- It has no mark outside its opening.
-pub written-clean : (h : Home) (i : ℕ) (x : Settled) (s : Sector) (m : ℕ) → Stands h i x s → cleanSpan i (writtenSector s ++ replicate m 0xFF) ≡ true
+pub written-clean : (h : Home) (i : ℕ) (x : Settled) (s : Sector) (m : ℕ) → Valid h i x s → cleanSpan i (writtenSector s ++ replicate m 0xFF) ≡ true
 unfolding cleanSpan countOpening
 written-clean h zero x s m v = written-unmarked h x s m v
 written-clean h (suc i) x s m v = rw (written-at (suc i) s (replicate m 0xFF) (v .position)) (rest-bytes h (suc i) x s m v)
 
 -- What is read from a clean span can stand.
-pub read-stands : (h : Home) (i : ℕ) (x : Settled) (p : ℕ) (last : Bool) (g : List ℕ) (s : Sector) → cleanSpan i g ≡ true → readSpan h i x p last g ≡ good s → Stands h i x s
-read-stands h i x p last g s c e =
+pub read-valid : (h : Home) (i : ℕ) (x : Settled) (p : ℕ) (last : Bool) (g : List ℕ) (s : Sector) → cleanSpan i g ≡ true → readSpan h i x p last g ≡ good s → Valid h i x s
+read-valid h i x p last g s c e =
     let v = read-inv h i x p last g s e in
-    subst (Stands h i x) (sym (v .sector-is)) (sector-stands h i x (behindOpening i g) (clean-behind i g c) (v .fields-right))
+    subst (Valid h i x) (sym (v .sector-is)) (sector-valid h i x (behindOpening i g) (clean-behind i g c) (v .fields-right))
 
 -- A new key and data within the rule leave a sector able to stand.
-pub content-stands : (h : Home) (i : ℕ) (x : Settled) (s : Sector) (key body : List ℕ) → Stands h i x s → contentRight key body ≡ true → unmarked key ≡ true → unmarked body ≡ true
-    → Stands h i x (withContent key body s)
+pub content-valid : (h : Home) (i : ℕ) (x : Settled) (s : Sector) (key body : List ℕ) → Valid h i x s → contentRight key body ≡ true → unmarked key ≡ true → unmarked body ≡ true
+    → Valid h i x (withContent key body s)
 unfolding contentRight withContent
-content-stands h i x s key body v c k b =
+content-valid h i x s key body v c k b =
     let n = and-both (leb (length key) 255) (leb (length body) 65535) c in
     let m = info-fits s (v .count-bytes) in
     record {

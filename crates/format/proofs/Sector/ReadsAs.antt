@@ -11,10 +11,10 @@ use Rattle.format.specs.Count.{Settled, unsettled}
 use Rattle.format.specs.Span.{none, cleanSpan, cleanSpans}
 use Rattle.format.specs.Sector.{Sector, settle, readSpan}
 use Rattle.format.specs.Accept.{judgeMarks, readSpans, Placed, placedFrom, judgeNumbers, Accepted, spansOf, judgeBehind, firstCountEnd, acceptCells, sectorsOf}
-use Rattle.format.proofs.Spans.Shape.{AllStand}
+use Rattle.format.proofs.Spans.Shape.{AllValid}
 use Rattle.format.proofs.Base.Judged.{good-inj, then-good}
 use Rattle.base.proofs.Tests.{and-both}
-use Rattle.format.proofs.Sector.ReadBack.{read-stands}
+use Rattle.format.proofs.Sector.ReadBack.{read-valid}
 
 -- The spans gs, from position i and place p on, read as the sectors ss.
 abbrev pub Reads : Home → ℕ → Settled → ℕ → List (List ℕ) → List Sector → Type 0
@@ -46,14 +46,14 @@ length-reads h i x p (g ∷ gs) [] e = absurd e
 length-reads h i x p (g ∷ gs) (s ∷ ss) e = ap suc (length-reads h (suc i) (settle x s) (p + length g) gs ss (e .1))
 
 -- Sectors that clean spans read as can stand.
-pub reads-stand : (h : Home) (i : ℕ) (x : Settled) (p : ℕ) (gs : List (List ℕ)) (ss : List Sector) → cleanSpans i gs ≡ true → Reads h i x p gs ss → AllStand h i x ss
+pub reads-valid : (h : Home) (i : ℕ) (x : Settled) (p : ℕ) (gs : List (List ℕ)) (ss : List Sector) → cleanSpans i gs ≡ true → Reads h i x p gs ss → AllValid h i x ss
 unfolding cleanSpans
-reads-stand h i x p [] [] c e = tt
-reads-stand h i x p [] (s ∷ ss) c e = absurd e
-reads-stand h i x p (g ∷ gs) [] c e = absurd e
-reads-stand h i x p (g ∷ gs) (s ∷ ss) c e =
+reads-valid h i x p [] [] c e = tt
+reads-valid h i x p [] (s ∷ ss) c e = absurd e
+reads-valid h i x p (g ∷ gs) [] c e = absurd e
+reads-valid h i x p (g ∷ gs) (s ∷ ss) c e =
     let k = and-both (cleanSpan i g) (cleanSpans (suc i) gs) c in
-    (read-stands h i x p (none gs) g s (k .0) (e .0), reads-stand h (suc i) (settle x s) (p + length g) gs ss (k .1) (e .1))
+    (read-valid h i x p (none gs) g s (k .0) (e .0), reads-valid h (suc i) (settle x s) (p + length g) gs ss (k .1) (e .1))
 
 -- The sectors of placed ones are the sectors.
 pub sectors-placed : (p : ℕ) (gs : List (List ℕ)) (ss : List Sector) → length gs ≡ length ss → sectorsOf (placedFrom p gs ss) ≡ ss

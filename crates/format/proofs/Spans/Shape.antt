@@ -1,4 +1,4 @@
--- What the laws say of spans and of sectors: spans as cutting gives them, spans without stray marks, sectors that can stand in a position.
+-- What the laws say of spans and of sectors: spans as cutting gives them, spans without stray marks, sectors that are valid in a position.
 use mathlib.Core.Path.{_≡_}
 use Prim.Native.Nat.{ℕ, zero, suc, _+_, _≤_}
 use mathlib.Core.Bool.{Bool, true, false, _&&_}
@@ -25,8 +25,8 @@ FirstReaches n [] = Unit {0}
 FirstReaches n (g ∷ []) = Unit {0}
 FirstReaches n (g ∷ k ∷ gs) = n ≤ length g
 
--- The sector s can stand in position i behind the home h, where x is settled.
-pub record Stands (h : Home) (i : ℕ) (x : Settled) (s : Sector) : Type 0 where
+-- The sector s keeps the rules of position i behind the home h, where x is settled.
+pub record Valid (h : Home) (i : ℕ) (x : Settled) (s : Sector) : Type 0 where
   pub position : s .first ≡ isFirst i
   pub flag-right : countFlagRight (h .flag) i (s .flag) ≡ true
   pub address-right : countAddressRight h x (s .address) ≡ true
@@ -34,7 +34,7 @@ pub record Stands (h : Home) (i : ℕ) (x : Settled) (s : Sector) : Type 0 where
   pub key-bytes : unmarked (s .keyBytes) ≡ true
   pub data-bytes : unmarked (s .dataBytes) ≡ true
 
--- The sectors can stand from position i on.
-abbrev pub AllStand : Home → ℕ → Settled → List Sector → Type 0
-AllStand h i x [] = Unit {0}
-AllStand h i x (s ∷ ss) = Stands h i x s × AllStand h (suc i) (settle x s) ss
+-- The sectors keep the rules from position i on.
+abbrev pub AllValid : Home → ℕ → Settled → List Sector → Type 0
+AllValid h i x [] = Unit {0}
+AllValid h i x (s ∷ ss) = Valid h i x s × AllValid h (suc i) (settle x s) ss

@@ -11,11 +11,11 @@ use Rattle.format.specs.Home.{Home, firstCountPlace}
 use Rattle.format.specs.Count.{Settled, unsettled, settled, countAddressRight}
 use Rattle.format.specs.Sector.{Sector, settle}
 use Rattle.format.specs.Accept.{Placed, placedFrom, Accepted, acceptCells, sectorsOf}
-use Rattle.format.proofs.Spans.Shape.{AllStand}
+use Rattle.format.proofs.Spans.Shape.{AllValid}
 use Rattle.base.proofs.Tests.{and-both}
 use Rattle.format.proofs.Track.AcceptedSpans.{track-sectors}
 use Rattle.format.proofs.Track.TakenApart.{taken-apart}
-use Rattle.format.proofs.Sector.ReadsAs.{reads-stand}
+use Rattle.format.proofs.Sector.ReadsAs.{reads-valid}
 
 -- Every sector names the address b.
 abbrev pub AllName : Address → List Sector → Type 0
@@ -45,15 +45,15 @@ unfolding settle
 settle-named unsettled s b m e = ap {B = Settled} (λ (a : Address). settled a) e
 settle-named (settled a) s b m e = ap {B = Settled} (λ (a : Address). settled a) m
 
-stand-name : (h : Home) (i : ℕ) (b : Address) (ss : List Sector) → AllStand h i (settled b) ss → AllName b ss
+valid-name : (h : Home) (i : ℕ) (b : Address) (ss : List Sector) → AllValid h i (settled b) ss → AllName b ss
 unfolding settle countAddressRight
-stand-name h i b [] v = tt
-stand-name h i b (s ∷ ss) v = (same-equal (s .address) b (v .0 .address-right), stand-name h (suc i) b ss (v .1))
+valid-name h i b [] v = tt
+valid-name h i b (s ∷ ss) v = (same-equal (s .address) b (v .0 .address-right), valid-name h (suc i) b ss (v .1))
 
 -- Sectors that can stand from position 0 on name the address that the first of them names.
-pub all-name : (h : Home) (s : Sector) (ss : List Sector) → AllStand h 0 unsettled (s ∷ ss) → AllName (s .address) (s ∷ ss)
+pub all-name : (h : Home) (s : Sector) (ss : List Sector) → AllValid h 0 unsettled (s ∷ ss) → AllName (s .address) (s ∷ ss)
 unfolding settle
-all-name h s ss v = (refl, stand-name h 1 (s .address) ss (v .1))
+all-name h s ss v = (refl, valid-name h 1 (s .address) ss (v .1))
 
 -- C and H of sector 0, which all counts share.
 abbrev pub sharedAddress : List Placed → Address
@@ -69,6 +69,6 @@ counts-agree c a e =
     let p : ℕ = firstCountPlace (h .place) in
     let gs : List (List ℕ) = t .span ∷ t .spans in
     let ss : List Sector = t .sector ∷ t .sectors in
-    let named : AllName (t .sector .address) ss = all-name h (t .sector) (t .sectors) (reads-stand h 0 unsettled p gs ss (t .track .clean) (t .track .reads)) in
+    let named : AllName (t .sector .address) ss = all-name h (t .sector) (t .sectors) (reads-valid h 0 unsettled p gs ss (t .track .clean) (t .track .reads)) in
     let Goal : Accepted → Type 0 = λ y. AllName (sharedAddress (y .sectors)) (sectorsOf (y .sectors)) in
     subst Goal (t .same) (subst (AllName (t .sector .address)) (sym (track-sectors (t .head) h gs ss (t .track))) named)

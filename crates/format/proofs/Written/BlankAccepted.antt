@@ -19,7 +19,7 @@ use Rattle.format.specs.Sector.{Sector, contentRight}
 use Rattle.format.specs.Accept.{placedFrom, among, judgeNumbers, Accepted, accept, sectorsOf}
 use Rattle.format.specs.Written.{gapOne, writtenSector, sectorSize, writtenBehind, Pair, asPair}
 use Rattle.format.specs.Blank.{namedBy, blankRight, writtenHead, blankSector, blank}
-use Rattle.format.proofs.Spans.Shape.{Stands}
+use Rattle.format.proofs.Spans.Shape.{Valid}
 use Rattle.format.proofs.Base.Judged.{good-inj, require-good}
 use Rattle.base.proofs.Tests.{and-both, and-make}
 use Rattle.format.proofs.Sector.ReadBack.{length-written, read-written, written-first, written-clean}
@@ -61,9 +61,9 @@ module _ (own : Address) (flag : ℕ) (named : Address) (s : ℕ) (key body : Li
   abbrev span : ℕ → List ℕ
   span m = writtenSector sector ++ replicate m 0xFF
 
-  blank-stands : Wanted own flag named key body → s < 256 → unmarked key ≡ true → unmarked body ≡ true → Stands (blankHome flag own) 0 unsettled sector
+  blank-valid : Wanted own flag named key body → s < 256 → unmarked key ≡ true → unmarked body ≡ true → Valid (blankHome flag own) 0 unsettled sector
   unfolding blankSector countAddressRight
-  blank-stands w n uk ub =
+  blank-valid w n uk ub =
       let bounds = range-bounds named (right-in-range flag own named (w .own-right) (w .named-right)) in
       record {
         position = refl;
@@ -74,7 +74,7 @@ module _ (own : Address) (flag : ℕ) (named : Address) (s : ℕ) (key body : Li
         data-bytes = ub;
       }
 
-  blank-track : (m : ℕ) → Wanted own flag named key body → Stands (blankHome flag own) 0 unsettled sector → 13 ≤ m
+  blank-track : (m : ℕ) → Wanted own flag named key body → Valid (blankHome flag own) 0 unsettled sector → 13 ≤ m
       → Track (writtenHead flag own) (blankHome flag own) (span m ∷ []) (sector ∷ [])
   unfolding leastGap cleanSpans placedFrom judgeNumbers among
   blank-track m w v h =
@@ -159,7 +159,7 @@ module _ (l k : ℕ) (own : Address) (flag : ℕ) (partner : Address) (s : ℕ) 
       let w = wanted own flag partner key body (g .1) in
       let room : length head + length (writtenSector new) + 13 ≤ l = omega (arith, need-is own flag named s key body, g .2) in
       let m : ℕ = gapToIndex head l new in
-      let b = blank-track own flag named s key body m w (blank-stands own flag named s key body w n uk ub) (gap-behind head l new room) in
+      let b = blank-track own flag named s key body m w (blank-valid own flag named s key body w n uk ub) (gap-behind head l new room) in
       let len : length c ≡ l = length-behind head l new room in
       let ok : lengthRight (length c) ≡ true = ap lengthRight len ∙ and-both (lengthRight l) (eqb k l) (g .0) .0 in
       let t = acceptedOf (blankHome flag own) (spanToIndex head l new ∷ []) (new ∷ []) in

@@ -12,7 +12,7 @@ use Rattle.format.specs.Block.{leastGap}
 use Rattle.format.specs.Span.{joined, none, cleanSpans}
 use Rattle.format.specs.Sector.{Sector, settle}
 use Rattle.format.specs.Written.{writtenSector, sectorSize, gapAfter, reach, writtenSpans}
-use Rattle.format.proofs.Spans.Shape.{Shape, FirstReaches, AllStand}
+use Rattle.format.proofs.Spans.Shape.{Shape, FirstReaches, AllValid}
 use Rattle.format.proofs.Sector.ReadBack.{length-written, read-written, written-first, written-later, written-clean}
 use Rattle.format.proofs.Sector.ReadsAs.{Reads}
 
@@ -40,7 +40,7 @@ module _ (gap : ℕ → ℕ → ℕ) where
       omega (arith, length-append (writtenSector s ++ replicate g 0xFF) rest, length-written-span s g, ih)
 
   -- Written spans have the shape of spans.
-  pub shape-written-spans : (h : Home) (i : ℕ) (x : Settled) (n : ℕ) (ss : List Sector) → AllStand h i x ss → Shape i (writtenSpans gap n ss)
+  pub shape-written-spans : (h : Home) (i : ℕ) (x : Settled) (n : ℕ) (ss : List Sector) → AllValid h i x ss → Shape i (writtenSpans gap n ss)
   unfolding writtenSpans
   shape-written-spans h i x n [] v = tt
   shape-written-spans h zero x n (s ∷ ss) v =
@@ -51,7 +51,7 @@ module _ (gap : ℕ → ℕ → ℕ) where
       (written-later h i x s m (v .0), shape-written-spans h (suc (suc i)) (settle x s) _ ss (v .1))
 
   -- Written spans carry no stray mark.
-  pub clean-written-spans : (h : Home) (i : ℕ) (x : Settled) (n : ℕ) (ss : List Sector) → AllStand h i x ss → cleanSpans i (writtenSpans gap n ss) ≡ true
+  pub clean-written-spans : (h : Home) (i : ℕ) (x : Settled) (n : ℕ) (ss : List Sector) → AllValid h i x ss → cleanSpans i (writtenSpans gap n ss) ≡ true
   unfolding writtenSpans cleanSpans
   clean-written-spans h i x n [] v = refl
   clean-written-spans h i x n (s ∷ ss) v =
@@ -73,7 +73,7 @@ module _ (gap : ℕ → ℕ → ℕ) where
     gap-reaches s = least (length (s .keyBytes)) (length (s .dataBytes))
 
     -- Written spans read back as their sectors, where the last block ends no later than 13 cells before index.
-    pub reads-written-spans : (h : Home) (i : ℕ) (x : Settled) (p n : ℕ) (ss : List Sector) → AllStand h i x ss → reach gap ss + 13 ≤ n
+    pub reads-written-spans : (h : Home) (i : ℕ) (x : Settled) (p n : ℕ) (ss : List Sector) → AllValid h i x ss → reach gap ss + 13 ≤ n
         → Reads h i x p (writtenSpans gap n ss) ss
     unfolding reach writtenSpans leastGap
     reads-written-spans h i x p n [] v l = tt

@@ -1,4 +1,4 @@
--- The bytes of a count against its numbers, and that the sector in unmarked cells with right fields can stand.
+-- The bytes of a count against its numbers, and that the sector in unmarked cells with right fields is valid.
 use mathlib.Core.Path.{_≡_, refl}
 use Prim.Native.Nat.{ℕ, _/_, _%_, _≤_, _<_}
 use mathlib.Core.Bool.{Bool, true}
@@ -14,7 +14,7 @@ use Rattle.format.specs.Count.{Settled, countFlag, keyLength, dataLength
 use Rattle.format.specs.Block.{dataOffset, blockInfo, keyInfo, dataInfo}
 use Rattle.format.specs.Sector.{Sector, isFirst, sectorIn}
 use Rattle.format.specs.Written.{countInfo}
-use Rattle.format.proofs.Spans.Shape.{Stands}
+use Rattle.format.proofs.Spans.Shape.{Valid}
 use Rattle.base.proofs.Tests.{and-both}
 use Rattle.format.proofs.Cells.Opening.{unmarked-take, unmarked-drop, unmarked-at}
 
@@ -86,10 +86,10 @@ sector-fits first r u =
       data-fits = omega (arith, data-info-short r, unmarked-at r 7 u, unmarked-at r 8 u);
     }
 
--- The sector in unmarked cells whose fields are right can stand.
-pub sector-stands : (h : Home) (i : ℕ) (x : Settled) (r : List ℕ) → unmarked r ≡ true → countFieldsRight h i x r ≡ true → Stands h i x (sectorIn (isFirst i) r)
+-- The sector in unmarked cells whose fields are right is valid.
+pub sector-valid : (h : Home) (i : ℕ) (x : Settled) (r : List ℕ) → unmarked r ≡ true → countFieldsRight h i x r ≡ true → Valid h i x (sectorIn (isFirst i) r)
 unfolding countFieldsRight sectorIn
-sector-stands h i x r u e =
+sector-valid h i x r u e =
     let f = and-both (countFlagRight (h .flag) i (countFlag r)) (countAddressRight h x (addressIn r)) e in
     record {
       position = refl;
