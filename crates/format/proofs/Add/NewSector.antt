@@ -1,4 +1,4 @@
--- The sector that Add writes: which it is, that it can stand, and when there is room for it.
+-- The sector that Add writes: which it is, that it is valid, and when there is room for it.
 use mathlib.Core.Path.{_≡_, refl, ap, _∙_}
 use Prim.Native.Nat.{ℕ, suc, _+_, _≤_, _<_}
 use native.Mathlib.Omega.{arith}
@@ -42,7 +42,7 @@ newSector a b7 s key body =
       dataBytes = body;
     }
 
--- A sector behind others can stand, where its fields are within the rule.
+-- A sector behind others is valid, where its fields are within the rule.
 pub added-valid : (h : Home) (i : ℕ) (o n : Sector) (b7 : ℕ) → unmarked (n .keyBytes) ≡ true → unmarked (n .dataBytes) ≡ true → n .number < 256
     → contentRight (n .keyBytes) (n .dataBytes) ≡ true → b7 ≤ 1 → Valid h 0 unsettled o
     → n .first ≡ false → n .flag ≡ addedFlag (h .flag) (suc i) b7 → n .address ≡ o .address → Valid h (suc i) (settled (o .address)) n

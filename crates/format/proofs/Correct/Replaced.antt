@@ -62,7 +62,7 @@ pub replaced-settle : (a : Correction) (x : Settled) (s : Sector) → settle x (
 replaced-settle a x s =
     cases (named a s) (λ e. rw (replaced-one a s e) (content-settle x s (a .key) (a .body))) (λ e. rw (replaced-other a s e))
 
--- Sectors that can stand can stand after a correction within the rule.
+-- Valid sectors stay valid after a correction within the rule.
 pub replaced-valid : (a : Correction) → Bytes a → contentRight (a .key) (a .body) ≡ true
     → (h : Home) (i : ℕ) (x : Settled) (ss : List Sector) → AllValid h i x ss → AllValid h i x (map (replacedBy a) ss)
 replaced-valid a b c h i x [] v = tt

@@ -71,7 +71,7 @@ rest-read h i x last s R v l =
       sector-is = rw e (rest-sector s R ∙ ap (λ (b : Bool). sectorIn b (writtenRest s R)) (v .position));
     }
 
--- A sector that can stand is read from what is written for it, followed by at least the least gap.
+-- A valid sector is read from what is written for it, followed by at least the least gap.
 pub read-written : (h : Home) (i : ℕ) (x : Settled) (p : ℕ) (last : Bool) (s : Sector) (m : ℕ) → Valid h i x s → leastGap last ≤ m
     → readSpan h i x p last (writtenSector s ++ replicate m 0xFF) ≡ good s
 read-written h i x p last s m v l =
@@ -103,7 +103,7 @@ unfolding cleanSpan countOpening
 written-clean h zero x s m v = written-unmarked h x s m v
 written-clean h (suc i) x s m v = rw (written-at (suc i) s (replicate m 0xFF) (v .position)) (rest-bytes h (suc i) x s m v)
 
--- What is read from a clean span can stand.
+-- What is read from a clean span is valid.
 pub read-valid : (h : Home) (i : ℕ) (x : Settled) (p : ℕ) (last : Bool) (g : List ℕ) (s : Sector) → cleanSpan i g ≡ true → readSpan h i x p last g ≡ good s → Valid h i x s
 read-valid h i x p last g s c e =
     let v = read-inv h i x p last g s e in

@@ -45,7 +45,7 @@ length-reads h i x p [] (s ∷ ss) e = absurd e
 length-reads h i x p (g ∷ gs) [] e = absurd e
 length-reads h i x p (g ∷ gs) (s ∷ ss) e = ap suc (length-reads h (suc i) (settle x s) (p + length g) gs ss (e .1))
 
--- Sectors that clean spans read as can stand.
+-- Sectors that clean spans read as are valid.
 pub reads-valid : (h : Home) (i : ℕ) (x : Settled) (p : ℕ) (gs : List (List ℕ)) (ss : List Sector) → cleanSpans i gs ≡ true → Reads h i x p gs ss → AllValid h i x ss
 unfolding cleanSpans
 reads-valid h i x p [] [] c e = tt

@@ -50,7 +50,7 @@ unfolding settle countAddressRight
 valid-name h i b [] v = tt
 valid-name h i b (s ∷ ss) v = (same-equal (s .address) b (v .0 .address-right), valid-name h (suc i) b ss (v .1))
 
--- Sectors that can stand from position 0 on name the address that the first of them names.
+-- Sectors that are valid from position 0 on name the address that the first of them names.
 pub all-name : (h : Home) (s : Sector) (ss : List Sector) → AllValid h 0 unsettled (s ∷ ss) → AllName (s .address) (s ∷ ss)
 unfolding settle
 all-name h s ss v = (refl, valid-name h 1 (s .address) ss (v .1))
