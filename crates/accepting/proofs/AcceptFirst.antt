@@ -1,6 +1,6 @@
 -- Sector 0 on a track without stray marks: its span by the next mark, and what is left behind it.
 use mathlib.Core.Path.{_≡_, refl, sym, ap, ap₂, _∙_}
-use Prim.Native.Nat.{ℕ, _+_, _-_, _≤_}
+use Prim.Native.Nat.{ℕ, _+_, _-_, _≤_, _<_}
 use native.Mathlib.Omega.{arith}
 use mathlib.Core.Bool.{Bool, true, false}
 use mathlib.Core.List.{List, [], _∷_, _++_}
@@ -45,6 +45,7 @@ pub record First (p n : ℕ) (t m : List ℕ) : Type 0 where
   pub opened : startsWith plainOpening (beforeOpening (drop p (cells t m))) ≡ true
   pub size : length (beforeOpening (drop p (cells t m))) ≡ n
   pub opening : 6 ≤ n
+  pub reaches : p + n < length t → 18 ≤ n
   pub fits : p + n ≤ length t
   pub bytes : take (p + n - (p + 6)) (drop (p + 6) t) ≡ drop 6 (beforeOpening (drop p (cells t m)))
   pub last : runsToIndex 6 (drop p (cells t m)) ≡ none (laterSpans (drop p (cells t m)))
@@ -73,6 +74,7 @@ first-front p t m n u o e =
       opened = opened;
       size = size;
       opening = omega arith;
+      reaches = reach gs whole size (c .2);
       fits = fits;
       bytes = sym (after-bytes 6 p (p + n - (p + 6)) t m k) ∙ ap (afterOpening 6) (sym whole) ∙ a .1;
       last = ap (runsToIndex 6) (sym whole) ∙ a .2;
@@ -84,6 +86,13 @@ first-front p t m n u o e =
         clean = ap (cleanSpans 1) cut ∙ and-both (cleanSpan 0 g) (cleanSpans 1 gs) (c .1) .1;
       };
     }
+  where
+    -- Where a sector follows, sector 0's span has 18 cells or more.
+    reach : (gs : List (List ℕ)) → beforeOpening (drop p (cells t m)) ++ joined gs ≡ drop p (cells t m) → length (beforeOpening (drop p (cells t m))) ≡ n
+        → FirstReaches 18 (beforeOpening (drop p (cells t m)) ∷ gs) → p + n < length t → 18 ≤ n
+    reach [] w k f l =
+        absurd (omega (arith, ap length w, length-append (beforeOpening (drop p (cells t m))) [], length-drop p (cells t m), length-cells t m, u .lengths, u .reach))
+    reach (y ∷ gs) w k f l = omega arith
 
 -- What is left behind sector 0, as two slices.
 pub first-rest : (p n : ℕ) (t m : List ℕ) → First p n t m → Rest (p + n) (take (length t - (p + n)) (drop (p + n) t)) (take (length m - (p + n)) (drop (p + n) m))

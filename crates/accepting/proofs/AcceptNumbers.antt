@@ -21,7 +21,8 @@ use Rattle.format.proofs.Cells.Opening.{unmarked-at, unmarked-drop}
 use Rattle.format.proofs.Spans.Marks.{marks-clean}
 use Rattle.format.proofs.Track.Pairs.{drop-cells}
 use Rattle.format.proofs.Find.CandidateBytes.{after-bytes}
-use Rattle.sectors.specs.Stepped.{Stepped, steppedIn, restAt, steppedAt}
+use Rattle.sectors.specs.SectorAt.{SectorAt, sectorFields, lastFirstCount, opensFirst, restAt, sectorAt}
+use Rattle.sectors.proofs.Rest.{opens-low, opens-high}
 use Rattle.accepting.specs.Accepting.{Rest, NoStrayMark, numbersIn}
 use Rattle.accepting.proofs.AcceptSpans.{Front, front, no-span}
 use Rattle.accepting.proofs.AcceptFirst.{First, first-front}
@@ -71,14 +72,14 @@ unfolding flagged
 flagged-none f p t m l = rw (no-span (drop p t) (drop p m) (omega (arith, length-drop p t)))
 
 -- The number of the sector whose count opens at place p.
-number-at : (first : Bool) (p : ℕ) (c : List ℕ) → p ≤ 4002 → steppedAt first p c .number ≡ countNumber (afterOpening (openingLength first) (drop p c))
-unfolding steppedAt steppedIn restAt
-number-at first p c l = rw (le-leb p 4002 l)
+number-at : (first : Bool) (p : ℕ) (c : List ℕ) → p ≤ 4002 → opensFirst p ≡ first → sectorAt p c .number ≡ countNumber (afterOpening (openingLength first) (drop p c))
+unfolding sectorAt sectorFields restAt
+number-at first p c l f = rw (le-leb p 4002 l, f)
 
 -- Where the sector behind the one at place p starts.
-next-at : (first : Bool) (p : ℕ) (c : List ℕ) → p ≤ 4002 → steppedAt first p c .next ≡ p + spanLength (openingLength first) (drop p c)
-unfolding steppedAt steppedIn
-next-at first p c l = rw (le-leb p 4002 l)
+next-at : (first : Bool) (p : ℕ) (c : List ℕ) → p ≤ 4002 → opensFirst p ≡ first → sectorAt p c .next ≡ p + spanLength (openingLength first) (drop p c)
+unfolding sectorAt sectorFields
+next-at first p c l f = rw (le-leb p 4002 l, f)
 
 -- What a later sector at place q tells: its number, and where the next one starts.
 pub record Passed (t m : List ℕ) (q number next : ℕ) : Type 0 where
@@ -88,20 +89,20 @@ pub record Passed (t m : List ℕ) (q number next : ℕ) : Type 0 where
   pub within : next ≤ length t
 
 -- The later sector x at place q, where what is left starts with it.
-pub passed : (t m : List ℕ) (q : ℕ) (x : Stepped) → x ≡ steppedAt false q (cells t m) → q < length t → length t ≤ 4002 → Rest q (drop q t) (drop q m)
+pub passed : (t m : List ℕ) (q : ℕ) (x : SectorAt) → x ≡ sectorAt q (cells t m) → lastFirstCount < q → q < length t → length t ≤ 4002 → Rest q (drop q t) (drop q m)
     → Passed t m q (x .number) (x .next)
-passed t m q x e l w r =
+passed t m q x e behind l w r =
     let c : List ℕ = cells (drop q t) (drop q m) in
     let d : drop q (cells t m) ≡ c = drop-cells q t m in
     let n : x .next ≡ q + spanLength 8 c =
-    ap (λ (z : Stepped). z .next) e ∙ next-at false q (cells t m) (omega arith) ∙ ap (λ (z : List ℕ). q + spanLength 8 z) d in
+    ap (λ (z : SectorAt). z .next) e ∙ next-at false q (cells t m) (omega arith) (opens-high q behind) ∙ ap (λ (z : List ℕ). q + spanLength 8 z) d in
     let k : x .next - q ≡ spanLength 8 c = omega arith in
     let f : Front q (x .next - q) (drop q t) (drop q m) = front q (drop q t) (drop q m) (x .next - q) r k (omega (arith, length-drop q t)) in
     let b : afterOpening 8 c ≡ drop 8 (f .span) =
     after-bytes 8 0 (x .next - q - 8) (drop q t) (drop q m) (ap (λ (j : ℕ). j - 8) k) ∙ f .bytes in
     record {
       front-is = f;
-      number-is = ap (λ (z : Stepped). z .number) e ∙ number-at false q (cells t m) (omega arith) ∙ ap (λ (z : List ℕ). countNumber z) (ap (afterOpening 8) d ∙ b);
+      number-is = ap (λ (z : SectorAt). z .number) e ∙ number-at false q (cells t m) (omega arith) (opens-high q behind) ∙ ap (λ (z : List ℕ). countNumber z) (ap (afterOpening 8) d ∙ b);
       further = omega (arith, f .opening);
       within = omega (arith, f .fits, length-drop q t);
     }
@@ -131,9 +132,9 @@ module _ (t m : List ℕ) (q number next : ℕ) (s : Passed t m q number next) w
 
 -- Sector 0 at place p: its number is the first that is passed, and what is left behind it decides.
 module _ (t m : List ℕ) (p : ℕ) (u : NoStrayMark p t m) (o : startsWith plainOpening (drop p (cells t m)) ≡ true)
-    (x : Stepped) (e : x ≡ steppedAt true p (cells t m)) where
+    (window : (48 ≤ p) × (p ≤ lastFirstCount)) (x : SectorAt) (e : x ≡ sectorAt p (cells t m)) where
   zero-next : x .next ≡ p + spanLength 6 (drop p (cells t m))
-  zero-next = ap (λ (z : Stepped). z .next) e ∙ next-at true p (cells t m) (omega (arith, u .reach, u .within))
+  zero-next = ap (λ (z : SectorAt). z .next) e ∙ next-at true p (cells t m) (omega (arith, u .reach, u .within)) (opens-low p (window .1))
 
   zero-front : First p (x .next - p) t m
   zero-front = first-front p t m (x .next - p) u o (omega (arith, zero-next))
@@ -143,12 +144,16 @@ module _ (t m : List ℕ) (p : ℕ) (u : NoStrayMark p t m) (o : startsWith plai
       let c : List ℕ = drop p (cells t m) in
       let k : x .next - p ≡ spanLength 6 c = omega (arith, zero-next) in
       let j : p + (x .next - p) - (p + 6) ≡ spanLength 6 c - 6 = omega arith in
-      ap (λ (z : Stepped). z .number) e ∙ number-at true p (cells t m) (omega (arith, u .reach, u .within))
+      ap (λ (z : SectorAt). z .number) e ∙ number-at true p (cells t m) (omega (arith, u .reach, u .within)) (opens-low p (window .1))
       ∙ ap (λ (z : List ℕ). countNumber z) (after-bytes 6 p (p + (x .next - p) - (p + 6)) t m j ∙ zero-front .bytes)
 
   -- Where the next sector starts, or the track ends.
   pub zero-within : x .next ≤ length t
   zero-within = omega (arith, zero-front .fits, zero-next)
+
+  -- A sector that follows opens behind the last place of sector 0's count.
+  pub zero-behind : x .next < length t → lastFirstCount < x .next
+  zero-behind h = let k : 18 ≤ x .next - p = zero-front .reaches (omega (arith, zero-next)) in omega (arith, window .0)
 
   -- What is left behind sector 0.
   pub zero-rest : Rest (x .next) (drop (x .next) t) (drop (x .next) m)

@@ -13,6 +13,7 @@ ghost use Rattle.format.specs.Span.{laterSpans, spans};
 ghost use Rattle.format.specs.Sector.{judgeSector};
 ghost use Rattle.format.specs.Accept.{readSpans, judgeBehind, accept};
 ghost use Rattle.sector.specs.As.{asAddress, asHome, asSettled};
+ghost use Rattle.sectors.specs.SectorAt.{lastFirstCount};
 ghost use Rattle.accepting.specs.Accepting.{Rest, NoStrayMark, numbersIn, judgedTrack, trackInWindow};
 use format::layout::FIRST_COUNT;
 use format::layout::HOME_TO_COUNT;
@@ -97,15 +98,16 @@ fn judge_sectors(track: &[u8], marks: &[u8], p: usize, h: Home) -> format::Answe
 fn judge_numbers(track: &[u8], marks: &[u8], p: usize) -> format::Answer
     requires { ⌜ NoStrayMark p (now track) (now marks) ⌝ }
     requires { ⌜ startsWith plainOpening (drop p (cells (now track) (now marks))) ≡ true ⌝ }
+    requires { ⌜ (48 ≤ p) × (p ≤ lastFirstCount) ⌝ }
     ensures { λ a. ⌜ asAnswer a ≡ answerOf (numbersIn [] 0 p (spans (drop p (cells (now (track .entry)) (now (marks .entry)))))) ⌝ }
 {
     let mut seen: [u8; 256] = [0; 256];
-    let zero = sector_at(track, marks, true, p);
+    let zero = sector_at(track, marks, p);
     let number = zero.number as usize;
     seen[number] = 1;
     let mut q = zero.next;
     while q < track.len() {
-        let x = sector_at(track, marks, false, q);
+        let x = sector_at(track, marks, q);
         let s = x.number as usize;
         if seen[s] != 0 {
             return format::sector_repeated(q);
@@ -119,7 +121,7 @@ fn judge_numbers(track: &[u8], marks: &[u8], p: usize) -> format::Answer
 // The answer for a track behind its home h: 5, then the sectors, then 13.
 fn judge_behind(track: &[u8], marks: &[u8], h: Home) -> format::Answer
     requires { ⌜ lentForReading (now track) (now marks) ≡ true ⌝ }
-    requires { ⌜ h .place ≤ 37 ⌝ }
+    requires { ⌜ (23 ≤ h .place) × (h .place ≤ 37) ⌝ }
     ensures { λ a. ⌜ asAnswer a ≡ answerOf (judgeBehind (asHome h) (cells (now (track .entry)) (now (marks .entry)))) ⌝ }
 {
     let p = h.place + HOME_TO_COUNT;

@@ -1,5 +1,5 @@
 -- What is settled before any record is filled: by the length of the list, and by what Accept says.
-use mathlib.Core.Path.{_≡_, refl, sym, ap, _∙_}
+use mathlib.Core.Path.{_≡_, refl, sym, ap, _∙_, subst}
 use Prim.Native.Nat.{ℕ, _≤_, _<_}
 use native.Mathlib.Omega.{arith}
 use mathlib.Core.List.{List}
@@ -9,10 +9,12 @@ use Rattle.format.specs.declared.Answer.{Answer as AnswerCode}
 use Rattle.format.specs.Answer.{coded, asAnswer, Answer, done, lentWrong}
 use Rattle.format.specs.Judged.{Judged, good, refused, then, answerOf}
 use Rattle.format.specs.Home.{Home, firstCountPlace}
-use Rattle.format.specs.Accept.{Accepted, accept}
+use Rattle.format.specs.Accept.{Placed, Accepted, accept}
 use Rattle.format.specs.Listing.{Listed, mostSectors, list}
 use Rattle.format.proofs.Base.Judged.{good-inj}
-use Rattle.format.proofs.Track.ListAccepted.{list-records, list-refuses, list-short}
+use Rattle.format.proofs.Track.ListAccepted.{list-records, list-number, list-refuses, list-short}
+use Rattle.sectors.specs.From.{SectorsFrom}
+use Rattle.sectors.proofs.From.{accepted-steps}
 use Rattle.listing.specs.declared.Begun.{Begun}
 use Rattle.listing.specs.Filling.{recordsOf, firstCount, firstFor, refusedBy, begun}
 
@@ -26,6 +28,19 @@ first-count t m h e = go (accept t m) e
         → then j (λ (a : Accepted). good (firstCountPlace (a .home .place))) ≡ good (firstCountPlace (h .place))
     go (good a) q = ap {B = Judged ℕ} (λ (k : Home). good (firstCountPlace (k .place))) (sym (good-inj h (a .home) q))
     go (refused b) q = absurd (let z : _≡_ {A = ℕ} 0 1 = cc in omega arith)
+
+-- The number of sectors from there on is the number of records.
+pub counted : (t m : List ℕ) (h : Home) (k : ℕ) → _≡_ {A = Judged Home} (good h) (then (accept t m) (λ (a : Accepted). good (a .home)))
+    → ((xs : List Placed) → SectorsFrom t m (firstCountPlace (h .place)) xs → k ≡ length xs) → k ≡ length (recordsOf (list mostSectors t m))
+counted t m h k e f = go (accept t m) refl e
+  where
+    go : (j : Judged Accepted) → accept t m ≡ j → _≡_ {A = Judged Home} (good h) (then j (λ (a : Accepted). good (a .home)))
+        → k ≡ length (recordsOf (list mostSectors t m))
+    go (good a) g q =
+        let s : SectorsFrom t m (firstCountPlace (h .place)) (a .sectors) =
+        subst (λ (z : Home). SectorsFrom t m (firstCountPlace (z .place)) (a .sectors)) (sym (good-inj h (a .home) q)) (accepted-steps t m a g) in
+        rw (list-records mostSectors t m a (omega arith) g) (omega (arith, f (a .sectors) s, list-number a))
+    go (refused b) g q = absurd (let z : _≡_ {A = ℕ} 0 1 = cc in omega arith)
 
 -- Accept's refusal is handed on.
 pub first-refused : (t m : List ℕ) (b : Answer) → _≡_ {A = Judged Home} (refused b) (then (accept t m) (λ (a : Accepted). good (a .home)))

@@ -1,6 +1,5 @@
 -- The laws of filling the caller's list.
 pub mod Stored
 pub mod Listed
-pub mod Counted
 pub mod Beginning
 pub mod Said

@@ -1,78 +1,49 @@
 -- The records that are come to from sector 0's count on are those of List, and their number is at most the list's length.
 use mathlib.Core.Path.{_≡_, refl, sym, ap, ap₂, _∙_, subst}
-use Prim.Native.Nat.{ℕ, zero, suc, _+_, _≤_, _<_}
+use Prim.Native.Nat.{ℕ, zero, suc, _≤_}
 use native.Mathlib.Omega.{arith}
-use mathlib.Core.Bool.{Bool, false}
 use mathlib.Core.List.{List, [], _∷_, _++_, map}
 use lib.ListN.{length, drop}
 use lib.Dec.{leb}
-use borrow.Author.Tests.{le-leb, lt-leb, leb-true, leb-false}
+use borrow.Author.Tests.{le-leb, leb-true, leb-false}
 use Rattle.format.specs.Answer.{Answer}
 use Rattle.format.specs.Judged.{Judged, good, refused}
 use Rattle.format.specs.Lent.{cells}
 use Rattle.format.specs.Home.{firstCountPlace}
-use Rattle.format.specs.Span.{none}
 use Rattle.format.specs.Accept.{Placed, Accepted, accept}
 use Rattle.format.specs.Listing.{Listed, listed, mostSectors, list}
 use Rattle.base.proofs.Tests.{cases}
 use Rattle.format.proofs.Track.Sectors.{list-suffices}
 use Rattle.format.proofs.Track.ListAccepted.{list-records, list-number, list-refuses, list-short}
-use Rattle.sectors.proofs.Stepping.{Stepping}
-use Rattle.sectors.proofs.From.{SectorsFrom, accepted-start}
+use Rattle.sectors.specs.SectorAt.{sectorAt}
+use Rattle.sectors.specs.From.{SectorsFrom}
+use Rattle.sectors.proofs.From.{accepted-steps}
 use Rattle.listing.specs.declared.Sector.{Sector}
 use Rattle.listing.specs.Run.{run}
-use Rattle.listing.specs.Filling.{asListed, asRecords, recordsOf, filled, asSector, sectorAt, firstCount, firstFor}
+use Rattle.listing.specs.Filling.{asListed, asRecords, recordsOf, filled, asSector, firstCount, firstFor}
 
 -- The record of the sector that is come to at place p of the cells c, and the place of the next.
 abbrev pub value : List ℕ → ℕ → Sector
-value c p = asSector (sectorAt c p)
+value c p = asSector (sectorAt p c)
 
 abbrev pub next : List ℕ → ℕ → ℕ
-next c p = sectorAt c p .next
-
--- From place p on the track has exactly the sectors xs; the first of them is sector 0 where p is at most 62.
-pub record Here (t m : List ℕ) (p : ℕ) (xs : List Placed) : Type 0 where
-  pub steps : SectorsFrom t m p (leb p 62) xs
-  pub least : 48 ≤ p
-
--- Stepping over an accepted track starts so.
-pub here-first : (t m : List ℕ) (a : Accepted) → accept t m ≡ good a → Here t m (firstCountPlace (a .home .place)) (a .sectors)
-here-first t m a e =
-    let s = accepted-start t m a e in
-    let p : ℕ = firstCountPlace (a .home .place) in
-    record { steps = subst (λ (b : Bool). SectorsFrom t m p b (a .sectors)) (sym (le-leb p 62 (s .start-most))) (s .steps); least = s .start-least }
+next c p = sectorAt p c .next
 
 -- What the first of the sectors gives, and where the later ones are.
 pub record Come (t m : List ℕ) (p : ℕ) (x : Placed) (xs : List Placed) : Type 0 where
   pub listed-is : asListed (value (cells t m) p) ≡ listed x
-  pub onward : p < next (cells t m) p
-  pub inside : next (cells t m) p ≤ length (cells t m)
-  pub later : Here t m (next (cells t m) p) xs
+  pub later : SectorsFrom t m (next (cells t m) p) xs
 
-pub come : (t m : List ℕ) (p : ℕ) (x : Placed) (xs : List Placed) → Here t m p (x ∷ xs) → Come t m p x xs
-unfolding sectorAt listed
-come t m p x xs h =
-    let v : Stepping t m p (leb p 62) x (none xs) = h .steps .0 in
-    let n : next (cells t m) p ≡ p + length (x .span) = v .next-is in
-    let q : ℕ = next (cells t m) p in
-    let f : leb q 62 ≡ false = lt-leb q 62 (omega (arith, v .span-least, h .least)) in
+pub come : (t m : List ℕ) (p : ℕ) (x : Placed) (xs : List Placed) → SectorsFrom t m p (x ∷ xs) → Come t m p x xs
+unfolding listed
+come t m p x xs (v, r) =
     record {
       listed-is = λ i. record { flag = v .flag-is i; number = v .number-is i; keyLength = v .key-length-is i; dataLength = v .data-length-is i; keyPlace = v .key-place-is i; dataPlace = v .data-place-is i };
-      onward = omega (arith, v .span-least);
-      inside = omega (arith, v .span-inside);
-      later = record {
-        steps = subst (λ (b : Bool). SectorsFrom t m q b xs) (sym f) (subst (λ (k : ℕ). SectorsFrom t m k false xs) (sym n) (h .steps .1));
-        least = omega (arith, v .span-least, h .least);
-      };
+      later = subst (λ (k : ℕ). SectorsFrom t m k xs) (sym (v .next-is)) r;
     }
 
--- At the end no sector is left, and before it one is.
-pub here-end : (t m : List ℕ) (p : ℕ) (xs : List Placed) → Here t m p xs → length (cells t m) ≤ p → xs ≡ []
-here-end t m p [] h l = refl
-here-end t m p (x ∷ xs) h l = absurd (let v = come t m p x xs h in omega (arith, v .onward, v .inside))
-
 -- The records that are come to are those of the sectors.
-run-listed : (t m : List ℕ) (p : ℕ) (xs : List Placed) → Here t m p xs → asRecords (run (value (cells t m)) (next (cells t m)) p (length xs)) ≡ map listed xs
+run-listed : (t m : List ℕ) (p : ℕ) (xs : List Placed) → SectorsFrom t m p xs → asRecords (run (value (cells t m)) (next (cells t m)) p (length xs)) ≡ map listed xs
 run-listed t m p [] h = refl
 run-listed t m p (x ∷ xs) h =
     let v = come t m p x xs h in
@@ -105,7 +76,7 @@ listing-good n t m a l e =
       count-fits = rw g (omega (arith, list-suffices t m a e));
       records-are = rw g (
           ap₂ (λ (q j : ℕ). asRecords (run (value (cells t m)) (next (cells t m)) q j)) f k
-          ∙ run-listed t m p (a .sectors) (here-first t m a e));
+          ∙ run-listed t m p (a .sectors) (accepted-steps t m a e));
     }
 
 pub listing : (n : ℕ) (t m : List ℕ) → Listing n t m

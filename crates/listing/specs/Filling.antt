@@ -9,7 +9,7 @@ use Rattle.format.specs.Judged.{Judged, good, then, require, answerOf, valueOr}
 use Rattle.format.specs.Home.{firstCountPlace}
 use Rattle.format.specs.Accept.{accept}
 use Rattle.format.specs.Listing.{Listed, mostSectors, list}
-use Rattle.sectors.specs.Stepped.{Stepped, steppedAt}
+use Rattle.sectors.specs.SectorAt.{SectorAt, sectorAt}
 use Rattle.listing.specs.declared.Sector.{Sector}
 use Rattle.listing.specs.declared.SectorNext.{SectorNext}
 use Rattle.listing.specs.declared.Listing.{Listing}
@@ -40,7 +40,7 @@ unfoldable pub filled : Judged (List Listed) → List Listed → List Listed
 filled j old = recordsOf j ++ drop (length (recordsOf j)) old
 
 -- The record of a sector that is come to.
-abbrev pub asSector : Stepped → Sector
+abbrev pub asSector : SectorAt → Sector
 asSector v =
     record {
       flag = v .flag;
@@ -51,13 +51,9 @@ asSector v =
       «data_place» = v .dataPlace;
     }
 
--- The sector whose count opens at place p of the cells c: home starts at 37 at the latest, so sector 0's count opens at 62 or before.
-unfoldable pub sectorAt : List ℕ → ℕ → Stepped
-sectorAt c p = steppedAt (leb p 62) p c
-
--- Its record, and the place at which the next count opens.
+-- The record of the sector whose count opens at place p of the cells c, and the place at which the next count opens.
 abbrev pub recordAt : List ℕ → ℕ → SectorNext
-recordAt c p = record { sector = asSector (sectorAt c p); next = sectorAt c p .next }
+recordAt c p = record { sector = asSector (sectorAt p c); next = sectorAt p c .next }
 
 -- The place of sector 0's count on an accepted track.
 unfoldable pub firstCount : List ℕ → List ℕ → Judged ℕ

@@ -2,10 +2,10 @@
 ghost use mathlib.Core.Path.{_≡_};
 ghost use lib.ListN.{length, replicate};
 ghost use Rattle.format.specs.Answer.{asAnswer};
-ghost use Rattle.format.specs.Judged.{good, answerOf};
+ghost use Rattle.format.specs.Judged.{answerOf};
 ghost use Rattle.format.specs.Lent.{cells};
 ghost use Rattle.format.specs.Listing.{mostSectors, list};
-ghost use Rattle.listing.specs.Filling.{recordsOf, asRecords, filled, recordAt, firstCount, refusedBy, begun, empty};
+ghost use Rattle.listing.specs.Filling.{recordsOf, asRecords, filled, recordAt, refusedBy, begun, empty};
 
 // A sector record: flag, S, KL, DL and the places of the information, the key's 0 where KL = 0.
 pub struct Sector {
@@ -35,11 +35,11 @@ pub struct Begun {
     pub first: usize,
 }
 
-// The record of the sector whose count opens at place p: sector 0's stands at 62 at the latest, every later one behind that.
+// The record of the sector whose count opens at place p.
 fn record_at(track: &[u8], marks: &[u8], p: usize) -> SectorNext
     ensures { λ r. ⌜ r ≡ recordAt (cells (now (track .entry)) (now (marks .entry))) p ⌝ }
 {
-    let s = sectors::sector_at(track, marks, p <= 62, p);
+    let s = sectors::sector_at(track, marks, p);
     let sector = Sector {
         flag: s.flag,
         number: s.number,
@@ -52,21 +52,6 @@ fn record_at(track: &[u8], marks: &[u8], p: usize) -> SectorNext
         sector,
         next: s.next,
     }
-}
-
-// The number of sectors of an accepted track, on which sector 0's count opens at place p.
-fn sector_count(track: &[u8], marks: &[u8], p: usize) -> usize
-    requires { ⌜ firstCount (now track) (now marks) ≡ good p ⌝ }
-    ensures { λ n. ⌜ n ≡ length (recordsOf (list mostSectors (now (track .entry)) (now (marks .entry)))) ⌝ }
-{
-    let mut at = p;
-    let mut n: usize = 0;
-    while at < track.len() {
-        let x = record_at(track, marks, at);
-        at = x.next;
-        n += 1;
-    }
-    n
 }
 
 // No record is filled, and this is the answer.
@@ -88,7 +73,7 @@ fn begin(track: &[u8], marks: &[u8], n: usize) -> Begun
     match judged {
         accepting::Judged::Accepted(h) => {
             let first = h.place + 25;
-            let count = sector_count(track, marks, first);
+            let count = sectors::sector_count(track, marks, first);
             let answer = format::done();
             let listing = Listing { answer, count };
             Begun { listing, first }

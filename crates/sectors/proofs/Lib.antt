@@ -2,3 +2,6 @@
 pub mod Rest
 pub mod Stepping
 pub mod From
+pub mod Counted
+pub mod Found
+pub mod Passing

@@ -6,19 +6,21 @@ use mathlib.Core.Bool.{Bool, true, false}
 use mathlib.Core.List.{List, []}
 use lib.ListN.{length, take, drop, length-drop}
 use lib.Seq.{drop-drop, take-append-le, drop-append-le}
-use lib.Dec.{eqb}
-use borrow.Author.Tests.{le-leb, lt-leb, eq-eqb, ne-eqb}
+use lib.Dec.{leb, eqb}
+use borrow.Author.Tests.{le-leb, lt-leb, leb-true, eq-eqb, ne-eqb}
 use Rattle.base.specs.Pick.{pick}
 use Rattle.format.specs.Lent.{cells}
-use Rattle.format.specs.Count.{countFlag, countNumber, keyLength, dataLength}
+use Rattle.format.specs.Count.{countFlag, countAddress, countNumber, keyLength, dataLength}
 use Rattle.format.specs.Block.{keyOffset, dataOffset, blockEnd}
 use Rattle.format.specs.Span.{runsToIndex, spanLength, afterOpening}
 use Rattle.format.specs.Sector.{openingLength}
+use Rattle.base.proofs.Tests.{cases}
 use Rattle.base.proofs.Lists.{none-long}
 use Rattle.format.proofs.Find.CandidateBytes.{after-length, after-front-bytes, after-bytes}
 use Rattle.search.proofs.Run.{span-le}
 use Rattle.format.proofs.Track.Pairs.{length-cells}
-use Rattle.sectors.specs.Stepped.{Stepped, steppedIn, nowhere, restAt, steppedAt}
+use Rattle.sectors.specs.declared.SectorAt.{SectorAt as SectorCode}
+use Rattle.sectors.specs.SectorAt.{SectorAt, sectorFields, nowhere, lastFirstCount, opensFirst, restAt, sectorAt, asSectorAt}
 
 -- A place in what follows a count's opening is one in the track.
 pub after-place : (t m : List ℕ) (p o i n : ℕ) → i + n ≤ length (afterOpening o (drop p (cells t m)))
@@ -35,36 +37,70 @@ pub opening-least : (first : Bool) → 6 ≤ openingLength first
 opening-least true = omega arith
 opening-least false = omega arith
 
+-- A count that opens early enough is sector 0's,
+pub opens-low : (p : ℕ) → p ≤ lastFirstCount → opensFirst p ≡ true
+unfolding opensFirst
+opens-low p h = le-leb p lastFirstCount h
+
+-- and every other one is a later sector's.
+pub opens-high : (p : ℕ) → lastFirstCount < p → opensFirst p ≡ false
+unfolding opensFirst
+opens-high p h = lt-leb p lastFirstCount h
+
 -- The opening of the count at place p has o cells, and its span n.
-module _ (t m : List ℕ) (first : Bool) (p o n : ℕ) (w : o ≡ openingLength first) (s : n ≡ spanLength o (drop p (cells t m))) where
+module _ (t m : List ℕ) (p o n : ℕ) (w : o ≡ openingLength (opensFirst p)) (s : n ≡ spanLength o (drop p (cells t m))) where
   -- The span ends with the track at the latest.
   pub span-within : n ≤ length t - p
   span-within = omega (arith, span-le o (drop p (cells t m)), length-drop p (cells t m), length-cells t m)
 
   -- What follows the opening has this length.
-  rest-length : length (restAt first p (cells t m)) ≡ n - o
+  rest-length : length (restAt p (cells t m)) ≡ n - o
   unfolding restAt
   rest-length = ap (λ (k : ℕ). length (afterOpening k (drop p (cells t m)))) (sym w) ∙ after-length o (drop p (cells t m)) ∙ ap (λ (k : ℕ). k - o) (sym s)
 
   -- The span ends before its opening does: nothing follows.
-  pub rest-none : n < o → [] ≡ restAt first p (cells t m)
-  rest-none h = sym (none-long (restAt first p (cells t m)) (omega (arith, rest-length)))
+  pub rest-none : n < o → [] ≡ restAt p (cells t m)
+  rest-none h = sym (none-long (restAt p (cells t m)) (omega (arith, rest-length)))
 
   -- What follows the opening are these bytes of the track.
-  pub rest-bytes : take (p + n - (p + o)) (drop (p + o) t) ≡ restAt first p (cells t m)
+  pub rest-bytes : take (p + n - (p + o)) (drop (p + o) t) ≡ restAt p (cells t m)
   unfolding restAt
   rest-bytes = sym (after-bytes o p (p + n - (p + o)) t m (omega arith)) ∙ ap (λ (i : ℕ). afterOpening i (drop p (cells t m))) w
 
   -- The sector at place p by what follows the opening.
-  pub stepped-here : p ≤ 4002 → (last : Bool) → last ≡ runsToIndex o (drop p (cells t m)) → (r : List ℕ) → r ≡ restAt first p (cells t m)
-      → steppedIn (p + o) (p + n) last r ≡ steppedAt first p (cells t m)
-  unfolding steppedAt
-  stepped-here h last l r e = rw (le-leb p 4002 h) (cc)
+  pub sector-here : p ≤ 4002 → (last : Bool) → last ≡ runsToIndex o (drop p (cells t m)) → (r : List ℕ) → r ≡ restAt p (cells t m)
+      → sectorFields (p + o) (p + n) last r ≡ sectorAt p (cells t m)
+  unfolding sectorAt
+  sector-here h last l r e = rw (le-leb p 4002 h) (cc)
 
 -- Behind the longest track there is no sector.
-pub stepped-past : (first : Bool) (p : ℕ) (c : List ℕ) → 4002 < p → nowhere ≡ steppedAt first p c
-unfolding steppedAt
-stepped-past first p c h = rw (lt-leb p 4002 h)
+pub sector-past : (p : ℕ) (c : List ℕ) → 4002 < p → nowhere ≡ sectorAt p c
+unfolding sectorAt
+sector-past p c h = rw (lt-leb p 4002 h)
+
+-- A step that goes on starts on the longest track, and does not go beyond the cells.
+pub next-within : (p : ℕ) (c : List ℕ) → p < sectorAt p c .next → (p ≤ 4002) × (sectorAt p c .next ≤ length c)
+unfolding sectorAt sectorFields
+next-within p c h = cases (leb p 4002) low high
+  where
+    o : ℕ
+    o = openingLength (opensFirst p)
+
+    low : leb p 4002 ≡ true → (p ≤ 4002) × (sectorAt p c .next ≤ length c)
+    low e =
+        let n : sectorAt p c .next ≡ p + spanLength o (drop p c) = rw e in
+        (leb-true p 4002 e, omega (arith, h, n, span-le o (drop p c), length-drop p c))
+
+    high : leb p 4002 ≡ false → (p ≤ 4002) × (sectorAt p c .next ≤ length c)
+    high e = let n : sectorAt p c .next ≡ 0 = rw e in absurd (omega (arith, h, n))
+
+-- The same of the sector that `sector_at` gives.
+pub onward : (t m : List ℕ) (p : ℕ) (x : SectorCode) → asSectorAt x ≡ sectorAt p (cells t m) → p < x .next
+    → (p ≤ 4002) × (x .next ≤ length (cells t m)) × (x .next ≤ length t)
+onward t m p x e h =
+    let n : x .next ≡ sectorAt p (cells t m) .next = ap (λ (z : SectorAt). z .next) e in
+    let w = next-within p (cells t m) (omega arith) in
+    (w .0, omega (arith, w .1), omega (arith, w .1, length-cells t m))
 
 -- The place of the key's information: 0 where KL = 0,
 pub key-place-none : (n q v : ℕ) → n ≡ 0 → v ≡ 0 → v ≡ pick (eqb n 0) 0 (q + keyOffset + 6)
@@ -75,11 +111,11 @@ pub key-place-some : (n q v : ℕ) → (n ≡ 0 → ⊥) → v ≡ q + keyOffset
 key-place-some n q v z e = rw (ne-eqb n 0 z) e
 
 -- The sector with these fields is the one of which r follows the count's opening.
-pub stepped-made : (q next : ℕ) (last : Bool) (r : List ℕ) (s : Stepped) → s .flag ≡ countFlag r → s .number ≡ countNumber r → s .keyLength ≡ keyLength r → s .dataLength ≡ dataLength r
-    → s .keyPlace ≡ pick (eqb (s .keyLength) 0) 0 (q + keyOffset + 6) → s .dataPlace ≡ q + dataOffset r + 6 → s .end ≡ q + blockEnd r → s .next ≡ next → s .last ≡ last
-    → s ≡ steppedIn q next last r
-unfolding steppedIn
-stepped-made q next last r s f n k d kp dp e x l =
+pub fields-made : (q next : ℕ) (last : Bool) (r : List ℕ) (s : SectorAt) → s .flag ≡ countFlag r → s .number ≡ countNumber r → s .keyLength ≡ keyLength r → s .dataLength ≡ dataLength r
+    → s .keyPlace ≡ pick (eqb (s .keyLength) 0) 0 (q + keyOffset + 6) → s .dataPlace ≡ q + dataOffset r + 6 → s .end ≡ q + blockEnd r → s .next ≡ next → s .last ≡ last → s .address ≡ countAddress r
+    → s ≡ sectorFields q next last r
+unfolding sectorFields
+fields-made q next last r s f n k d kp dp e x l a =
     let key : s .keyPlace ≡ pick (eqb (keyLength r) 0) 0 (q + keyOffset + 6) = kp ∙ ap (λ (z : ℕ). pick (eqb z 0) 0 (q + keyOffset + 6)) k in
     λ i. record {
       flag = f i;
@@ -91,4 +127,5 @@ stepped-made q next last r s f n k d kp dp e x l =
       end = e i;
       next = x i;
       last = l i;
+      address = a i;
     }

@@ -1,6 +1,6 @@
 -- What stepping over a sector of an accepted track tells of it.
 use mathlib.Core.Path.{_≡_, refl, sym, ap, _∙_}
-use Prim.Native.Nat.{ℕ, _+_, _≤_, _<_}
+use Prim.Native.Nat.{ℕ, _+_, _≤_}
 use native.Mathlib.Omega.{arith}
 use mathlib.Core.Bool.{Bool, true}
 use mathlib.Core.List.{List}
@@ -10,70 +10,45 @@ use lib.Dec.{eqb}
 use borrow.Author.Tests.{eqb-true}
 use Rattle.base.specs.Pick.{pick}
 use Rattle.format.specs.Lent.{cells}
-use Rattle.format.specs.Count.{countAddress, keyLength, dataLength}
+use Rattle.format.specs.Count.{keyLength, dataLength}
 use Rattle.format.specs.Block.{keySize, dataOffset, blockEnd, leastGap, blocksFit, blockInfo, keyInfo, dataInfo}
+use Rattle.format.specs.Blocks.{blocksAt}
 use Rattle.format.specs.Written.{dataSize}
 use Rattle.format.specs.Span.{runsToIndex, spanLength, afterOpening}
-use Rattle.format.specs.Sector.{Sector, openingLength, sectorIn}
+use Rattle.format.specs.Sector.{openingLength, sectorIn}
 use Rattle.format.specs.Accept.{Placed, endOf}
-use Rattle.format.specs.Listing.{Listed, listed}
+use Rattle.format.specs.Listing.{listed}
 use Rattle.base.proofs.Tests.{cases}
 use Rattle.format.proofs.Sector.Sizes.{gap-least}
 use Rattle.format.proofs.Sector.BlockEnd.{offset-is, key-in-offset, data-in-end, written-in-end, end-in-span}
 use Rattle.format.proofs.Sector.ReadSector.{fit-key, fit-data}
 use Rattle.format.proofs.Sector.Valid.{FitsCount}
-use Rattle.sectors.specs.Stepped.{Stepped, steppedIn, restAt, steppedAt, addressAt}
-use Rattle.sectors.proofs.Rest.{opening-least, after-place, stepped-here}
-use Rattle.format.specs.Blocks.{blocksAt}
-
--- The sector x stands at place p of the track t with the marks m, and `last` says that its span runs to index.
-pub record Stepping (t m : List ℕ) (p : ℕ) (first : Bool) (x : Placed) (last : Bool) : Type 0 where
-  pub place-is : x .place ≡ p
-  pub first-is : x .sector .first ≡ first
-  -- The fields of the count at p.
-  pub flag-is : steppedAt first p (cells t m) .flag ≡ x .sector .flag
-  pub number-is : steppedAt first p (cells t m) .number ≡ x .sector .number
-  pub address-is : addressAt first p (cells t m) ≡ x .sector .address
-  pub key-length-is : steppedAt first p (cells t m) .keyLength ≡ length (x .sector .keyBytes)
-  pub data-length-is : steppedAt first p (cells t m) .dataLength ≡ length (x .sector .dataBytes)
-  -- The places.
-  pub key-place-is : steppedAt first p (cells t m) .keyPlace ≡ listed x .keyPlace
-  pub data-place-is : steppedAt first p (cells t m) .dataPlace ≡ listed x .dataPlace
-  pub end-is : steppedAt first p (cells t m) .end ≡ endOf x
-  pub next-is : steppedAt first p (cells t m) .next ≡ p + length (x .span)
-  pub last-is : steppedAt first p (cells t m) .last ≡ last
-  -- The bytes of the key and of the data in the track.
-  pub key-bytes : take (length (x .sector .keyBytes)) (drop (listed x .keyPlace) t) ≡ x .sector .keyBytes
-  pub data-bytes : take (length (x .sector .dataBytes)) (drop (listed x .dataPlace) t) ≡ x .sector .dataBytes
-  -- The numbers fit the bytes of a count, and the places lie in their order within the track.
-  pub fits : FitsCount (x .sector)
-  pub key-inside : listed x .keyPlace + length (x .sector .keyBytes) ≤ listed x .dataPlace
-  pub data-inside : listed x .dataPlace + length (x .sector .dataBytes) < endOf x
-  -- The sector takes no less than its written form.
-  pub end-size : p + openingLength first + 23 + keySize (length (x .sector .keyBytes)) + dataSize (length (x .sector .dataBytes)) ≤ endOf x
-  pub gap-inside : endOf x + leastGap last ≤ p + length (x .span)
-  pub end-inside : endOf x + 13 ≤ p + length (x .span)
-  pub span-least : 49 ≤ length (x .span)
-  pub span-inside : p + length (x .span) ≤ length (cells t m)
+use Rattle.sectors.specs.SectorAt.{SectorAt, sectorFields, opensFirst, restAt, sectorAt}
+use Rattle.sectors.specs.From.{Stepping}
+use Rattle.sectors.proofs.Rest.{opening-least, after-place, sector-here}
 
 -- The sector that the span g at place p shows, of which r follows the count's opening.
 abbrev pub shownBy : Bool → ℕ → List ℕ → List ℕ → Placed
 shownBy first p g r = record { place = p; span = g; sector = sectorIn first r }
 
 -- The span g stands at place p and runs up to the next mark, its blocks and the least gap fit, and the numbers of its sector fit the bytes of a count.
-module _ (t m : List ℕ) (first : Bool) (p : ℕ) (g : List ℕ) (last : Bool) (r : List ℕ) (behind : drop (openingLength first) g ≡ r)
+module _ (t m : List ℕ) (first : Bool) (p : ℕ) (least : 48 ≤ p) (place : first ≡ opensFirst p) (g : List ℕ) (last : Bool) (r : List ℕ) (behind : drop (openingLength first) g ≡ r)
     (size : spanLength (openingLength first) (drop p (cells t m)) ≡ length g) (after : afterOpening (openingLength first) (drop p (cells t m)) ≡ r)
     (runs : runsToIndex (openingLength first) (drop p (cells t m)) ≡ last) (inside : p + length g ≤ length (cells t m)) (low : p ≤ 4002)
     (long : openingLength first + length r ≡ length g) (fit : blocksFit last r ≡ true) (numbers : FitsCount (sectorIn first r)) where
   abbrev o : ℕ
   o = openingLength first
 
-  rest-is : restAt first p (cells t m) ≡ r
-  unfolding restAt
-  rest-is = after
+  -- The opening is the one that the place decides.
+  opening-is : o ≡ openingLength (opensFirst p)
+  opening-is = ap openingLength place
 
-  step-is : steppedAt first p (cells t m) ≡ steppedIn (p + o) (p + length g) last r
-  step-is = sym (stepped-here t m first p o (length g) refl (sym size) low last (sym runs) r (sym rest-is))
+  rest-is : restAt p (cells t m) ≡ r
+  unfolding restAt
+  rest-is = ap (λ (n : ℕ). afterOpening n (drop p (cells t m))) (sym opening-is) ∙ after
+
+  step-is : sectorAt p (cells t m) ≡ sectorFields (p + o) (p + length g) last r
+  step-is = sym (sector-here t m p o (length g) opening-is (sym size) low last (sym runs) r (sym rest-is))
 
   blocks-inside : blockEnd r + leastGap last ≤ length r
   blocks-inside = end-in-span r last fit
@@ -141,36 +116,34 @@ module _ (t m : List ℕ) (first : Bool) (p : ℕ) (g : List ℕ) (last : Bool) 
   unfolding sectorIn
   data-shown = ap (λ (q : ℕ). take (length (dataInfo r)) (drop q t)) data-place-here ∙ data-there
 
-  address-here : addressAt first p (cells t m) ≡ shown .sector .address
-  unfolding addressAt sectorIn
-  address-here = ap countAddress rest-is
-
-  end-sizes : p + o + 23 + keySize (length (shown .sector .keyBytes)) + dataSize (length (shown .sector .dataBytes)) ≤ endOf shown
+  end-sizes : p + openingLength (opensFirst p) + 23 + keySize (length (shown .sector .keyBytes)) + dataSize (length (shown .sector .dataBytes)) ≤ endOf shown
   end-sizes =
       let k = ap keySize key-length-here in
       let d = ap dataSize data-length-here in
-      omega (arith, k, d, end-here, offset-is r, written-in-end r)
+      omega (arith, k, d, end-here, opening-is, offset-is r, written-in-end r)
 
   -- Then the sector that it shows stands there.
-  pub stepping-made : Stepping t m p first (shownBy first p g r) last
-  unfolding steppedIn sectorIn
+  pub stepping-made : Stepping t m p (shownBy first p g r) last
+  unfolding sectorFields sectorIn
   stepping-made =
       record {
         place-is = refl;
-        first-is = refl;
-        flag-is = ap (λ (z : Stepped). z .flag) step-is;
-        number-is = ap (λ (z : Stepped). z .number) step-is;
-        address-is = address-here;
-        key-length-is = ap (λ (z : Stepped). z .keyLength) step-is ∙ sym key-length-here;
-        data-length-is = ap (λ (z : Stepped). z .dataLength) step-is ∙ sym data-length-here;
-        key-place-is = ap (λ (z : Stepped). z .keyPlace) step-is ∙ sym key-place-here;
-        data-place-is = ap (λ (z : Stepped). z .dataPlace) step-is ∙ sym data-place-here;
-        end-is = ap (λ (z : Stepped). z .end) step-is ∙ sym end-here;
-        next-is = ap (λ (z : Stepped). z .next) step-is;
-        last-is = ap (λ (z : Stepped). z .last) step-is;
+        place-least = least;
+        first-is = place;
+        flag-is = ap (λ (z : SectorAt). z .flag) step-is;
+        number-is = ap (λ (z : SectorAt). z .number) step-is;
+        address-is = ap (λ (z : SectorAt). z .address) step-is;
+        key-length-is = ap (λ (z : SectorAt). z .keyLength) step-is ∙ sym key-length-here;
+        data-length-is = ap (λ (z : SectorAt). z .dataLength) step-is ∙ sym data-length-here;
+        key-place-is = ap (λ (z : SectorAt). z .keyPlace) step-is ∙ sym key-place-here;
+        data-place-is = ap (λ (z : SectorAt). z .dataPlace) step-is ∙ sym data-place-here;
+        end-is = ap (λ (z : SectorAt). z .end) step-is ∙ sym end-here;
+        next-is = ap (λ (z : SectorAt). z .next) step-is;
+        last-is = ap (λ (z : SectorAt). z .last) step-is;
         key-bytes = key-shown;
         data-bytes = data-shown;
-        fits = numbers;
+        key-fits = omega (arith, numbers .key-fits);
+        data-fits = omega (arith, numbers .data-fits);
         key-inside = omega (arith, key-length-here, data-place-here, key-below);
         data-inside = omega (arith, data-length-here, data-place-here, end-here, data-in-end r);
         end-size = end-sizes;

@@ -2,10 +2,22 @@
 ghost use mathlib.Core.Path.{_≡_};
 ghost use Prim.Native.Nat.{_≤_};
 ghost use Rattle.format.specs.Lent.{cells};
-ghost use Rattle.sector.specs.As.{asAddress};
-ghost use Rattle.sectors.specs.Stepped.{steppedIn, steppedAt, addressAt, asStepped};
+ghost use Rattle.sectors.specs.SectorAt.{sectorFields, opensFirst, sectorAt, asSectorAt};
 
-// A sector: flag, S, KL, DL, the places of its information, where its data block ends, where the next span starts, and whether its own span runs to index.
+pub mod counting;
+pub mod ending;
+pub mod seeking;
+
+pub use counting::sector_count;
+pub use ending::Last;
+pub use ending::last_of;
+pub use seeking::Sought;
+pub use seeking::place_of;
+
+// The last place at which sector 0's count opens: home starts at 37 at the latest and has 14 bytes, and 11 follow it.
+const LAST_FIRST_COUNT: usize = 37 + 14 + 11;
+
+// A sector: flag, S, KL, DL, the places of its information, where its data block ends, where the next span starts, whether its own span runs to index, and C and H.
 pub struct SectorAt {
     pub flag: u8,
     pub number: u8,
@@ -16,12 +28,13 @@ pub struct SectorAt {
     pub end: usize,
     pub next: usize,
     pub last: bool,
+    pub address: sector::Address,
 }
 
 // The sector of which r follows the count's opening from place q on, where the next span starts at next.
 fn sector_in(q: usize, next: usize, last: bool, r: &[u8]) -> SectorAt
     requires { ⌜ q ≤ 4010 ⌝ }
-    ensures { λ s. ⌜ asStepped s ≡ steppedIn q next last (now (r .entry)) ⌝ }
+    ensures { λ s. ⌜ asSectorAt s ≡ sectorFields q next last (now (r .entry)) ⌝ }
 {
     let key_length = sector::key_length(r);
     let data_length = sector::data_length(r);
@@ -41,14 +54,26 @@ fn sector_in(q: usize, next: usize, last: bool, r: &[u8]) -> SectorAt
         end,
         next,
         last,
+        address: sector::address_in(r),
     }
 }
 
+// Whether the count that opens at place p is sector 0's.
+pub fn opens_first(p: usize) -> bool
+    ensures { λ b. ⌜ b ≡ opensFirst p ⌝ }
+{
+    p <= LAST_FIRST_COUNT
+}
+
 // The sector whose count opens at place p, with an opening of 6 bytes where it is sector 0's, else of 8; above place 4,002 there is none, and all numbers are zero.
-pub fn sector_at(track: &[u8], marks: &[u8], first: bool, p: usize) -> SectorAt
-    ensures { λ s. ⌜ asStepped s ≡ steppedAt first p (cells (now (track .entry)) (now (marks .entry))) ⌝ }
+pub fn sector_at(track: &[u8], marks: &[u8], p: usize) -> SectorAt
+    ensures { λ s. ⌜ asSectorAt s ≡ sectorAt p (cells (now (track .entry)) (now (marks .entry))) ⌝ }
 {
     if 4002 < p {
+        let address = sector::Address {
+            cylinder: 0,
+            head: 0,
+        };
         return SectorAt {
             flag: 0,
             number: 0,
@@ -59,9 +84,10 @@ pub fn sector_at(track: &[u8], marks: &[u8], first: bool, p: usize) -> SectorAt
             end: 0,
             next: 0,
             last: true,
+            address,
         };
     }
-    let o = sector::opening_length(first);
+    let o = sector::opening_length(opens_first(p));
     let span = search::span_at(track, marks, p, o);
     let n = span.length;
     let from = p + o;
@@ -70,19 +96,4 @@ pub fn sector_at(track: &[u8], marks: &[u8], first: bool, p: usize) -> SectorAt
         return sector_in(from, next, span.last, &track[0..0]);
     }
     sector_in(from, next, span.last, &track[from..next])
-}
-
-// C and H of the count that opens at place p.
-pub fn address_at(track: &[u8], marks: &[u8], first: bool, p: usize) -> sector::Address
-    ensures { λ a. ⌜ asAddress a ≡ addressAt first p (cells (now (track .entry)) (now (marks .entry))) ⌝ }
-{
-    let o = sector::opening_length(first);
-    let span = search::span_at(track, marks, p, o);
-    let n = span.length;
-    if n < o {
-        return sector::address_in(&track[0..0]);
-    }
-    let from = p + o;
-    let to = p + n;
-    sector::address_in(&track[from..to])
 }

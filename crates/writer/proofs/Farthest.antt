@@ -8,15 +8,17 @@ use lib.ListN.{length}
 use Rattle.format.specs.Lent.{cells}
 use Rattle.format.specs.Block.{keySize}
 use Rattle.format.specs.Written.{dataSize, gapOne, gapAfter, writtenSector, reach, sectorSize}
-use Rattle.format.specs.Sector.{Sector}
+use Rattle.format.specs.Sector.{Sector, openingLength}
 use Rattle.format.specs.Accept.{Placed, sectorsOf}
 use Rattle.format.proofs.Sector.Sizes.{key-size-least, data-size-least}
 use Rattle.format.proofs.Sector.ReadBack.{length-written}
-use Rattle.sectors.specs.declared.SectorAt.{SectorAt}
-use Rattle.sectors.specs.Stepped.{steppedAt, asStepped}
+use Rattle.sectors.specs.declared.SectorAt.{SectorAt as SectorCode}
+use Rattle.sectors.specs.SectorAt.{lastFirstCount, opensFirst, sectorAt, asSectorAt}
 use Rattle.sectors.proofs.Rest.{opening-least}
-use Rattle.sectors.proofs.From.{SectorsFrom, Step, step-at, steps-end}
-use Rattle.writer.specs.Remaining.{Remaining, farthest}
+use Rattle.sectors.specs.From.{SectorsFrom, Remaining}
+use Rattle.sectors.proofs.Rest.{opens-high}
+use Rattle.sectors.proofs.From.{Step, step-at, steps-end}
+use Rattle.writer.specs.Remaining.{farthest}
 
 -- A sector's block ends where its written form does, and the others follow its gap.
 pub farthest-from : (q : ℕ) (s : Sector) (xs : List Placed)
@@ -42,13 +44,13 @@ gap-below : (b : Bool) (kl dl : ℕ) → gapOne kl dl ≤ 2 * sectorSize b kl dl
 unfolding gapOne sectorSize
 gap-below b kl dl = omega (arith, opening-least b, key-size-least kl, data-size-least dl)
 
--- What a sector that is stepped over takes, and its gap.
-module _ (t m : List ℕ) (p : ℕ) (first : Bool) (xs : List Placed) (s : SectorAt) (v : Step t m p first xs s) where
+-- What a sector that is stepped over takes, and its gap; `first` says that it is sector 0.
+module _ (t m : List ℕ) (p : ℕ) (first : Bool) (place : opensFirst p ≡ first) (xs : List Placed) (s : SectorCode) (v : Step t m p xs s) where
   -- The written sector takes what the numbers read say.
   pub size-stepped : length (writtenSector (v .x .sector)) ≡ sectorSize first (s .«key_length») (s .«data_length»)
   size-stepped =
       length-written (v .x .sector)
-      ∙ ap (λ (b : Bool). sectorSize b (length (v .x .sector .keyBytes)) (length (v .x .sector .dataBytes))) (v .first-is)
+      ∙ ap (λ (b : Bool). sectorSize b (length (v .x .sector .keyBytes)) (length (v .x .sector .dataBytes))) (v .first-is ∙ place)
       ∙ ap₂ (sectorSize first) (sym (v .key-length-is)) (sym (v .data-length-is))
 
   -- So does its gap.
@@ -56,14 +58,11 @@ module _ (t m : List ℕ) (p : ℕ) (first : Bool) (xs : List Placed) (s : Secto
   unfolding gapAfter
   gap-stepped = ap₂ gapOne (sym (v .key-length-is)) (sym (v .data-length-is))
 
-  -- KL and DL fit their bytes.
-  pub lengths-stepped : (s .«key_length» ≤ 255) × (s .«data_length» ≤ 65535)
-  lengths-stepped = (omega (arith, v .key-length-is, v .fits .key-fits), omega (arith, v .data-length-is, v .fits .data-fits))
-
   -- Its block ends no earlier than its written form does.
   pub end-stepped : p + sectorSize first (s .«key_length») (s .«data_length») ≤ s .end
   unfolding sectorSize
-  end-stepped = omega (arith, ap keySize (v .key-length-is), ap dataSize (v .data-length-is), v .end-is, v .stepping .end-size)
+  end-stepped =
+      omega (arith, ap openingLength place, ap keySize (v .key-length-is), ap dataSize (v .data-length-is), v .end-is, v .stepping .end-size)
 
   -- It takes no more than it took, and its gap less than twice that.
   pub grows-stepped : sectorSize first (s .«key_length») (s .«data_length») + gapOne (s .«key_length») (s .«data_length») + 3 * p ≤ 3 * s .next
@@ -72,33 +71,33 @@ module _ (t m : List ℕ) (p : ℕ) (first : Bool) (xs : List Placed) (s : Secto
 -- The sectors from place p on, with which the end is the goal.
 pub record Ahead (t m : List ℕ) (p end gap goal : ℕ) : Type 0 where
   pub remaining : List Placed
-  pub steps : SectorsFrom t m p false remaining
+  pub steps : SectorsFrom t m p remaining
   pub same : farthest end gap remaining ≡ goal
 
 -- The sum has come to place p.
 abbrev pub Summing : List ℕ → List ℕ → ℕ → ℕ → ℕ → ℕ → ℕ → ℕ → Type 0
 Summing t m p₀ end₀ gap₀ p end gap =
-    (end + gap ≤ 100000 + 3 * p) × ((all : List Placed) → SectorsFrom t m p₀ false all → Ahead t m p end gap (farthest end₀ gap₀ all))
+    (lastFirstCount < p) × (end + gap ≤ 100000 + 3 * p) × ((all : List Placed) → SectorsFrom t m p₀ all → Ahead t m p end gap (farthest end₀ gap₀ all))
 
 -- It starts so.
-pub sum-start : (t m : List ℕ) (p end gap : ℕ) → end + gap ≤ 100000 → Summing t m p end gap p end gap
-sum-start t m p end gap h = (omega arith, λ all f. record { remaining = all; steps = f; same = refl })
+pub sum-start : (t m : List ℕ) (p end gap : ℕ) → (lastFirstCount < p) × (end + gap ≤ 100000) → Summing t m p end gap p end gap
+sum-start t m p end gap h = (h .0, omega (arith, h .1), λ all f. record { remaining = all; steps = f; same = refl })
 
-module _ (t m : List ℕ) (p₀ end₀ gap₀ p end gap : ℕ) (u : Remaining t m p₀ false) (i : Summing t m p₀ end₀ gap₀ p end gap) where
+module _ (t m : List ℕ) (p₀ end₀ gap₀ p end gap : ℕ) (u : Remaining t m p₀) (i : Summing t m p₀ end₀ gap₀ p end gap) where
   -- At index it is done.
-  pub sum-end : length t ≤ p → (all : List Placed) → SectorsFrom t m p₀ false all → end ≡ farthest end₀ gap₀ all
+  pub sum-end : length t ≤ p → (all : List Placed) → SectorsFrom t m p₀ all → end ≡ farthest end₀ gap₀ all
   sum-end l all f =
-      let r = i .1 all f in
-      let z : r .remaining ≡ [] = steps-end t m p false (r .remaining) (r .steps) (omega (arith, u .cells-length)) in
+      let r = i .2 all f in
+      let z : r .remaining ≡ [] = steps-end t m p (r .remaining) (r .steps) (omega (arith, u .cells-length)) in
       sym (farthest-none end gap (r .remaining) z) ∙ r .same
 
-  module _ (l : p < length t) (x : SectorAt) (e : asStepped x ≡ steppedAt false p (cells t m)) where
+  module _ (l : p < length t) (x : SectorCode) (e : asSectorAt x ≡ sectorAt p (cells t m)) where
     -- The step over the sector at p.
-    pub sum-step : (all : List Placed) (f : SectorsFrom t m p₀ false all) → Step t m p false (i .1 all f .remaining) x
-    sum-step all f = let r = i .1 all f in step-at t m p false (r .remaining) x (r .steps) (omega (arith, u .cells-length)) e
+    pub sum-step : (all : List Placed) (f : SectorsFrom t m p₀ all) → Step t m p (i .2 all f .remaining) x
+    sum-step all f = let r = i .2 all f in step-at t m p (r .remaining) x (r .steps) (omega (arith, u .cells-length)) e
 
     -- The step that the requirement shows.
-    abbrev pub sumStep : Step t m p false (i .1 (u .sectors) (u .steps) .remaining) x
+    abbrev pub sumStep : Step t m p (i .2 (u .sectors) (u .steps) .remaining) x
     sumStep = sum-step (u .sectors) (u .steps)
 
     -- Each step goes on, and not beyond index.
@@ -107,22 +106,23 @@ module _ (t m : List ℕ) (p₀ end₀ gap₀ p end gap : ℕ) (u : Remaining t 
 
     -- KL and DL of the sector at p fit their bytes.
     pub sum-lengths : (x .«key_length» ≤ 255) × (x .«data_length» ≤ 65535)
-    sum-lengths = lengths-stepped t m p false (i .1 (u .sectors) (u .steps) .remaining) x sumStep
+    sum-lengths = (sumStep .key-fits, sumStep .data-fits)
 
     -- The sum stays far below what a number can hold.
     pub sum-bound : end + gap + sectorSize false (x .«key_length») (x .«data_length») + gapOne (x .«key_length») (x .«data_length») ≤ 100000 + 3 * x .next
-    sum-bound = omega (arith, i .0, grows-stepped t m p false (i .1 (u .sectors) (u .steps) .remaining) x sumStep)
+    sum-bound = omega (arith, i .1, grows-stepped t m p false (opens-high p (i .0)) (i .2 (u .sectors) (u .steps) .remaining) x sumStep)
 
     -- The sum with the sector at p.
     pub sum-next : (n g : ℕ) → n ≡ sectorSize false (x .«key_length») (x .«data_length») → g ≡ gapOne (x .«key_length») (x .«data_length»)
         → Summing t m p₀ end₀ gap₀ (x .next) (end + gap + n) g
     sum-next n g en eg = (
+      sumStep .rest-behind,
       omega (arith, en, eg, sum-bound),
       λ all f.
-          let r = i .1 all f in
+          let r = i .2 all f in
           let v = sum-step all f in
-          let size : n ≡ length (writtenSector (v .x .sector)) = en ∙ sym (size-stepped t m p false (r .remaining) x v) in
-          let gaps : g ≡ gapAfter gapOne (v .x .sector) = eg ∙ sym (gap-stepped t m p false (r .remaining) x v) in
+          let size : n ≡ length (writtenSector (v .x .sector)) = en ∙ sym (size-stepped t m p false (opens-high p (i .0)) (r .remaining) x v) in
+          let gaps : g ≡ gapAfter gapOne (v .x .sector) = eg ∙ sym (gap-stepped t m p false (opens-high p (i .0)) (r .remaining) x v) in
           record {
             remaining = v .later;
             steps = v .rest;

@@ -13,18 +13,18 @@ use Rattle.format.specs.Sector.{Sector}
 use Rattle.format.specs.Accept.{Placed, sectorsOf}
 use Rattle.format.specs.Written.{gapOne, gapAfter, writtenSector, reach, writtenSpans, sectorSize}
 use Rattle.format.proofs.Track.Pairs.{length-bytes, length-marks}
-use Rattle.sector.specs.declared.fields.Address.{Address as AddressCode}
-use Rattle.sector.specs.As.{asAddress}
 use Rattle.encode.specs.Laid.{laidAt}
 use Rattle.encode.specs.Room.{sectorFrom}
 use Rattle.encode.proofs.Cells.{bytes-append, marks-append}
-use Rattle.sectors.specs.declared.SectorAt.{SectorAt}
-use Rattle.sectors.specs.Stepped.{steppedAt, addressAt, asStepped}
-use Rattle.sectors.proofs.From.{SectorsFrom, Step, step-at, steps-end}
+use Rattle.sectors.specs.declared.SectorAt.{SectorAt as SectorCode}
+use Rattle.sectors.specs.SectorAt.{lastFirstCount, opensFirst, sectorAt, asSectorAt}
+use Rattle.sectors.specs.From.{SectorsFrom}
+use Rattle.sectors.proofs.Rest.{opens-high}
+use Rattle.sectors.proofs.From.{Step, step-at, steps-end}
 use Rattle.writer.specs.Filled.{filledSpan}
 use Rattle.writer.specs.Remaining.{RemainingRoom, RoomFor, laterCells}
 use Rattle.writer.proofs.Filled.{filled-length, take-laid}
-use Rattle.writer.proofs.Farthest.{size-stepped, gap-stepped, lengths-stepped}
+use Rattle.writer.proofs.Farthest.{size-stepped, gap-stepped}
 
 -- The place up to which a sector written at place `at` and its gap reach, where the sectors ss follow.
 abbrev pub spanEnd : ℕ → ℕ → Sector → List Sector → ℕ
@@ -87,30 +87,31 @@ module _ (l at to : ℕ) (s : Sector) (ss : List Sector) (e : to ≡ spanEnd l a
 -- The sectors from place p of the old track on are to be written from place `at` of the new one on, whose bytes are F in the end and its marks G.
 pub record Going (t m : List ℕ) (p at : ℕ) (nt nm F G : List ℕ) : Type 0 where
   pub remaining : List Placed
-  pub steps : SectorsFrom t m p false remaining
+  pub steps : SectorsFrom t m p remaining
+  pub behind : lastFirstCount < p
   pub room : RoomFor (length t) at remaining
   pub bytes : take at nt ++ bytesOf (laterCells (length t - at) remaining) ≡ F
   pub marks : take at nm ++ marksOf (laterCells (length t - at) remaining) ≡ G
 
 -- A written sector is the one that was stepped over.
-pub sector-made : (t m : List ℕ) (p : ℕ) (first : Bool) (xs : List Placed) (s : SectorAt) (v : Step t m p first xs s) (a : AddressCode) (key body : List ℕ)
-    → asAddress a ≡ addressAt first p (cells t m) → key ≡ v .x .sector .keyBytes → body ≡ v .x .sector .dataBytes
-    → sectorFrom first (s .flag) (a .cylinder) (a .head) (s .number) key body ≡ v .x .sector
-sector-made t m p first xs s v a key body e k d =
-    let ad : asAddress a ≡ v .x .sector .address = e ∙ v .address-is in
+pub sector-made : (t m : List ℕ) (p : ℕ) (first : Bool) → opensFirst p ≡ first → (xs : List Placed) (s : SectorCode) (v : Step t m p xs s) (key body : List ℕ)
+    → key ≡ v .x .sector .keyBytes → body ≡ v .x .sector .dataBytes
+    → sectorFrom first (s .flag) (s .address .cylinder) (s .address .head) (s .number) key body ≡ v .x .sector
+sector-made t m p first place xs s v key body k d =
+    let f : first ≡ v .x .sector .first = sym (v .first-is ∙ place) in
     λ i. record {
-      first = sym (v .first-is) i;
+      first = f i;
       flag = v .flag-is i;
-      address = ad i;
+      address = v .address-is i;
       number = v .number-is i;
       keyBytes = k i;
       dataBytes = d i;
     }
 
 -- It starts so, where there is room for the sectors xs.
-pub going-start : (t m : List ℕ) (p at : ℕ) (nt nm : List ℕ) (xs : List Placed) → SectorsFrom t m p false xs → RoomFor (length t) at xs
+pub going-start : (t m : List ℕ) (p at : ℕ) (nt nm : List ℕ) (xs : List Placed) → SectorsFrom t m p xs → lastFirstCount < p → RoomFor (length t) at xs
     → Going t m p at nt nm (take at nt ++ bytesOf (laterCells (length t - at) xs)) (take at nm ++ marksOf (laterCells (length t - at) xs))
-going-start t m p at nt nm xs s r = record { remaining = xs; steps = s; room = r; bytes = refl; marks = refl }
+going-start t m p at nt nm xs s b r = record { remaining = xs; steps = s; behind = b; room = r; bytes = refl; marks = refl }
 
 module _ (t m : List ℕ) (p at : ℕ) (nt nm F G : List ℕ) (i : Going t m p at nt nm F G) (whole : length (cells t m) ≡ length t) where
   -- The place lies on the new track.
@@ -121,21 +122,21 @@ module _ (t m : List ℕ) (p at : ℕ) (nt nm F G : List ℕ) (i : Going t m p a
   pub going-end : length t ≤ p → length nt ≡ length t → length nm ≡ length t → (nt ≡ F) × (nm ≡ G)
   unfolding writtenSpans bytesOf marksOf
   going-end l nt-long nm-long =
-      let z : i .remaining ≡ [] = steps-end t m p false (i .remaining) (i .steps) (omega (arith, whole)) in
+      let z : i .remaining ≡ [] = steps-end t m p (i .remaining) (i .steps) (omega (arith, whole)) in
       let end : at ≡ length t = subst (RoomFor (length t) at) z (i .room) in
       let all : (ns : List ℕ) → length ns ≡ length t → take at ns ≡ ns = λ ns k. ap (λ (n : ℕ). take n ns) (end ∙ sym k) ∙ take-length ns in (
         sym (all nt nt-long) ∙ sym (append-nil (take at nt)) ∙ ap (λ (xs : List Placed). take at nt ++ bytesOf (laterCells (length t - at) xs)) (sym z) ∙ i .bytes,
         sym (all nm nm-long) ∙ sym (append-nil (take at nm)) ∙ ap (λ (xs : List Placed). take at nm ++ marksOf (laterCells (length t - at) xs)) (sym z) ∙ i .marks,
       )
 
-  module _ (l : p < length t) (x : SectorAt) (e : asStepped x ≡ steppedAt false p (cells t m)) where
+  module _ (l : p < length t) (x : SectorCode) (e : asSectorAt x ≡ sectorAt p (cells t m)) where
     -- The step over the sector at p.
-    pub going-step : Step t m p false (i .remaining) x
-    going-step = step-at t m p false (i .remaining) x (i .steps) (omega (arith, whole)) e
+    pub going-step : Step t m p (i .remaining) x
+    going-step = step-at t m p (i .remaining) x (i .steps) (omega (arith, whole)) e
 
     -- KL and DL of the sector at p fit their bytes.
     pub going-lengths : (x .«key_length» ≤ 255) × (x .«data_length» ≤ 65535)
-    going-lengths = lengths-stepped t m p false (i .remaining) x going-step
+    going-lengths = (going-step .key-fits, going-step .data-fits)
 
     -- The key and the data lie on the old track.
     pub going-parts : (x .«key_place» + x .«key_length» ≤ length t) × (x .«data_place» + x .«data_length» ≤ length t)
@@ -151,8 +152,8 @@ module _ (t m : List ℕ) (p at : ℕ) (nt nm F G : List ℕ) (i : Going t m p a
       end-made : to ≡ spanEnd (length t) at (going-step .x .sector) (sectorsOf (going-step .later))
       end-made =
           let v = going-step in
-          let size = size-stepped t m p false (i .remaining) x v in
-          let gap = gap-stepped t m p false (i .remaining) x v in
+          let size = size-stepped t m p false (opens-high p (i .behind)) (i .remaining) x v in
+          let gap = gap-stepped t m p false (opens-high p (i .behind)) (i .remaining) x v in
           f ∙ ap (λ (b : Bool). pick b (length t) (at + sectorSize false (x .«key_length») (x .«data_length») + gapOne (x .«key_length») (x .«data_length»))) (v .last-is ∙ none-sectors (v .later))
           ∙ ap₂ (λ (n g : ℕ). pick (none (sectorsOf (v .later))) (length t) (at + n + g)) (sym size) (sym gap)
 
@@ -163,25 +164,26 @@ module _ (t m : List ℕ) (p at : ℕ) (nt nm F G : List ℕ) (i : Going t m p a
 
       -- There is room for the sector.
       pub going-room : (at + sectorSize false (x .«key_length») (x .«data_length») ≤ to) × (to ≤ length t)
-      going-room = let r = split-room in (omega (arith, r .0, size-stepped t m p false (i .remaining) x going-step), r .1)
+      going-room = let r = split-room in (omega (arith, r .0, size-stepped t m p false (opens-high p (i .behind)) (i .remaining) x going-step), r .1)
 
       -- The sector is written.
-      pub going-next : (a : AddressCode) (key body nt' nm' : List ℕ) → asAddress a ≡ addressAt false p (cells t m)
+      pub going-next : (key body nt' nm' : List ℕ)
           → key ≡ take (x .«key_length») (drop (x .«key_place») t) → body ≡ take (x .«data_length») (drop (x .«data_place») t)
           → length nt ≡ length t → length nm ≡ length t
-          → nt' ≡ laidAt at (bytesOf (filledSpan (to - at) (sectorFrom false (x .flag) (a .cylinder) (a .head) (x .number) key body))) nt
-          → nm' ≡ laidAt at (marksOf (filledSpan (to - at) (sectorFrom false (x .flag) (a .cylinder) (a .head) (x .number) key body))) nm
+          → nt' ≡ laidAt at (bytesOf (filledSpan (to - at) (sectorFrom false (x .flag) (x .address .cylinder) (x .address .head) (x .number) key body))) nt
+          → nm' ≡ laidAt at (marksOf (filledSpan (to - at) (sectorFrom false (x .flag) (x .address .cylinder) (x .address .head) (x .number) key body))) nm
           → Going t m (x .next) to nt' nm' F G
-      going-next a key body nt' nm' ad k d nt-long nm-long qt qm =
+      going-next key body nt' nm' k d nt-long nm-long qt qm =
           let v = going-step in
           let r = split-room in
-          let s : sectorFrom false (x .flag) (a .cylinder) (a .head) (x .number) key body ≡ v .x .sector =
-          sector-made t m p false (i .remaining) x v a key body ad (k ∙ v .key-bytes) (d ∙ v .data-bytes) in
+          let s : sectorFrom false (x .flag) (x .address .cylinder) (x .address .head) (x .number) key body ≡ v .x .sector =
+          sector-made t m p false (opens-high p (i .behind)) (i .remaining) x v key body (k ∙ v .key-bytes) (d ∙ v .data-bytes) in
           let ss : List Sector = sectorsOf (v .later) in
           let within : at ≤ length t = going-within in
           record {
             remaining = v .later;
             steps = v .rest;
+            behind = v .rest-behind;
             room = r .2;
             bytes =
                 bytes-more (length t) at to (v .x .sector) ss end-made (r .0) nt nt' F (omega arith)
@@ -209,7 +211,7 @@ Writing t m p at nt nm p' at' nt' nm' =
 -- What is to be written then.
 pub writing-now : (t m : List ℕ) (p at : ℕ) (nt nm : List ℕ) (p' at' : ℕ) (nt' nm' : List ℕ) (u : RemainingRoom t m p at) → Writing t m p at nt nm p' at' nt' nm'
     → Going t m p' at' nt' nm' (take at nt ++ bytesOf (laterCells (length t - at) (u .remaining .sectors))) (take at nm ++ marksOf (laterCells (length t - at) (u .remaining .sectors)))
-writing-now t m p at nt nm p' at' nt' nm' u w = w .2 _ _ (going-start t m p at nt nm (u .remaining .sectors) (u .remaining .steps) (u .room))
+writing-now t m p at nt nm p' at' nt' nm' u w = w .2 _ _ (going-start t m p at nt nm (u .remaining .sectors) (u .remaining .steps) (u .behind) (u .room))
 
 -- Such a key and such data ask for the room that their numbers do.
 pub cut-asks : (b : Bool) (at to kl dl l : ℕ) (key body nt nm : List ℕ) → length key ≡ kl → length body ≡ dl → (kl ≤ 255) × (dl ≤ 65535)

@@ -2,7 +2,6 @@
 pub mod Outcome
 pub mod Filled
 pub mod Blanked
-pub mod Found
 pub mod Farthest
 pub mod Later
 pub mod Corrected

@@ -1,7 +1,6 @@
 -- The sectors that remain of an accepted track from a place on, as the writing loops step over them.
 use mathlib.Core.Path.{_≡_}
-use Prim.Native.Nat.{ℕ, _+_, _-_, _≤_}
-use mathlib.Core.Bool.{Bool, false}
+use Prim.Native.Nat.{ℕ, _+_, _-_, _≤_, _<_}
 use mathlib.Core.List.{List, [], _∷_}
 use lib.ListN.{length}
 use Rattle.base.specs.Pick.{pick}
@@ -12,7 +11,9 @@ use Rattle.format.specs.Span.{joined, none}
 use Rattle.format.specs.Accept.{Placed, Accepted, accept, fromNumber, sectorsOf}
 use Rattle.format.specs.Written.{gapOne, reach, writtenSpans}
 use Rattle.format.specs.Correct.{withContent}
-use Rattle.sectors.proofs.From.{SectorsFrom}
+use Rattle.sectors.specs.declared.SectorAt.{SectorAt}
+use Rattle.sectors.specs.SectorAt.{lastFirstCount, sectorAt, asSectorAt}
+use Rattle.sectors.specs.From.{Remaining}
 
 -- The track t with the marks m is accepted, and its sector 0 opens at place `start`.
 pub record Readable (t m : List ℕ) (start : ℕ) : Type 0 where
@@ -30,12 +31,11 @@ pub record Addable (t m : List ℕ) (start f s : ℕ) : Type 0 where
   pub flagged : ReadableFlag t m start f
   pub absent : fromNumber s (flagged .readable .accepted .sectors) ≡ []
 
--- The sectors from place p on.
-pub record Remaining (t m : List ℕ) (p : ℕ) (first : Bool) : Type 0 where
-  pub sectors : List Placed
-  pub steps : SectorsFrom t m p first sectors
-  pub cells-length : length (cells t m) ≡ length t
-  pub length-most : length t ≤ 4002
+-- The sector x is what is read at place q before index, and sectors remain from there on.
+pub record ReadAt (t m : List ℕ) (q : ℕ) (x : SectorAt) : Type 0 where
+  pub remaining : Remaining t m q
+  pub inside : q < length t
+  pub is-read : asSectorAt x ≡ sectorAt q (cells t m)
 
 -- The sectors xs in first-written form, which fill n cells.
 abbrev pub laterCells : ℕ → List Placed → List ℕ
@@ -46,9 +46,10 @@ abbrev pub RoomFor : ℕ → ℕ → List Placed → Type 0
 RoomFor l at [] = at ≡ l
 RoomFor l at (x ∷ xs) = at + reach gapOne (sectorsOf (x ∷ xs)) ≤ l
 
--- The sectors from place p of the old track on have room from place `at` of the new one on.
+-- The sectors from place p of the old track on, all behind sector 0, have room from place `at` of the new one on.
 pub record RemainingRoom (t m : List ℕ) (p at : ℕ) : Type 0 where
-  pub remaining : Remaining t m p false
+  pub remaining : Remaining t m p
+  pub behind : lastFirstCount < p
   pub room : RoomFor (length t) at (remaining .sectors)
 
 -- Where the last block of the sectors xs ends, if a block before them ends at `end` and has the gap `gap` behind it.

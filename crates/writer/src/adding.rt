@@ -1,50 +1,22 @@
 // Add: one more sector after the last, with that block's first-written gap between them.
 ghost use mathlib.Core.Path.{_≡_};
 ghost use mathlib.Core.Bool.{true, false};
-ghost use mathlib.Core.List.{List, [], _∷_, _++_};
-ghost use Prim.Native.Nat.{suc, _+_, _-_, _≤_, _<_};
+ghost use mathlib.Core.List.{_++_};
+ghost use Prim.Native.Nat.{_+_, _-_, _≤_};
 ghost use lib.ListN.{length, take, replicate};
-ghost use lib.Dec.{eqb};
 ghost use Rattle.format.specs.Answer.{asAnswer};
 ghost use Rattle.format.specs.Lent.{cells, bytesOf, marksOf};
-ghost use Rattle.format.specs.Accept.{Placed, lastOf};
 ghost use Rattle.format.specs.Written.{gapOne, asPair, sectorSize, after, leaves};
 ghost use Rattle.format.specs.Sector.{contentRight};
 ghost use Rattle.format.specs.Add.{addedFlag, addCells, add};
 ghost use Rattle.encode.specs.Room.{sectorFrom};
-ghost use Rattle.sectors.proofs.From.{SectorsFrom};
 ghost use Rattle.writer.specs.Filled.{filledSpan};
-ghost use Rattle.writer.specs.Remaining.{ReadableFlag, Addable, Remaining};
+ghost use Rattle.writer.specs.Remaining.{ReadableFlag, Addable};
 use crate::both_lent;
 use crate::content_right;
 use crate::copy_kept;
 use crate::judge_room;
-use crate::place_of;
 use crate::put_span;
-
-// The last sector: its place, and the position of a sector added behind it.
-struct Last {
-    place: usize,
-    position: u8,
-}
-
-// The last of the sectors from sector 0 at place `start` on.
-fn last_of(track: &[u8], marks: &[u8], start: usize) -> Last
-    requires { ⌜ Remaining (now track) (now marks) start true ⌝ }
-    requires { ⌜ start < length (now track) ⌝ }
-    ensures { λ r. ⌜ ((x : Placed) (xs : List Placed) → SectorsFrom (now (track .entry)) (now (marks .entry)) start true (x ∷ xs) → (SectorsFrom (now (track .entry)) (now (marks .entry)) (r .place) (eqb (r .place) start) (lastOf x xs ∷ [])) × (r .position ≡ suc (length xs))) ⌝ }
-{
-    let mut p = start;
-    let mut position: u8 = 1;
-    loop {
-        let x = sectors::sector_at(track, marks, p == start, p);
-        if x.last {
-            return Last { place: p, position };
-        }
-        p = x.next;
-        position = position + 1;
-    }
-}
 
 // The flag of a new sector in position i: B8 by its position, B7, and B2 B1 as in the home flag f.
 fn added_flag(f: u8, i: u8, b7: u8) -> u8
@@ -98,17 +70,17 @@ fn add_behind(
     requires { ⌜ (length (now out) ≡ length (now track)) × (length (now «out_marks») ≡ length (now track)) ⌝ }
     ensures { λ r. ⌜ after (asAnswer r) (now (out .exit)) (now («out_marks» .exit)) ≡ leaves (asPair (addCells gapOne (cells (now (track .entry)) (now (marks .entry))) b7 s (now (key .entry)) (now (body .entry)))) (now (out .entry)) (now («out_marks» .entry)) ⌝ }
 {
-    let last = last_of(track, marks, start);
-    let p = last.place;
-    let x = sectors::sector_at(track, marks, p == start, p);
-    let end = x.end;
-    let to = end + encode::gap_one(x.key_length as u8, x.data_length as u16);
+    let last = sectors::last_of(track, marks, start);
+    let kl = last.sector.key_length as u8;
+    let dl = last.sector.data_length as u16;
+    let end = last.sector.end;
+    let to = end + encode::gap_one(kl, dl);
     let n = encode::sector_size(false, key.len() as u8, body.len() as u16);
     let room = judge_room(track.len(), to + n);
     if room.number == 0 {
-        let a = sectors::address_at(track, marks, p == start, p);
-        let i = last.position;
+        let i = last.position as u8;
         let flag = added_flag(f, i, b7);
+        let a = last.sector.address;
         write_added(track, marks, out, out_marks, end, to, flag, a, s, key, body);
     }
     room
@@ -137,9 +109,9 @@ fn add_on(
     if !content_right(key, body) {
         return format::wanted_wrong();
     }
-    let q = place_of(track, marks, start, s);
-    if q < track.len() {
-        return format::sector_repeated(q);
+    let sought = sectors::place_of(track, marks, start, s);
+    if sought.place < track.len() {
+        return format::sector_repeated(sought.place);
     }
     add_behind(track, marks, out, out_marks, start, f, b7, s, key, body)
 }

@@ -1,6 +1,5 @@
 // Correct: a sector gets a new key and data, and all behind its count's opening is written anew.
 ghost use mathlib.Core.Path.{_≡_};
-ghost use mathlib.Core.Bool.{false};
 ghost use mathlib.Core.List.{List, _∷_, _++_};
 ghost use Prim.Native.Nat.{_+_, _-_, _≤_, _<_};
 ghost use lib.ListN.{length, take};
@@ -9,27 +8,27 @@ ghost use Rattle.format.specs.Lent.{cells, bytesOf, marksOf};
 ghost use Rattle.format.specs.Accept.{Placed};
 ghost use Rattle.format.specs.Written.{gapOne, asPair, after, leaves};
 ghost use Rattle.format.specs.Correct.{correctCells, correct};
-ghost use Rattle.sectors.proofs.From.{SectorsFrom};
-ghost use Rattle.writer.specs.Remaining.{Readable, Remaining, RemainingRoom, RoomFor, laterCells, farthest, correctedEnd, correctedCells};
+ghost use Rattle.sectors.specs.SectorAt.{lastFirstCount};
+ghost use Rattle.sectors.specs.From.{SectorsFrom, Remaining};
+ghost use Rattle.writer.specs.Remaining.{Readable, ReadAt, RemainingRoom, RoomFor, laterCells, farthest, correctedEnd, correctedCells};
 use crate::both_lent;
 use crate::content_right;
 use crate::copy_kept;
 use crate::judge_room;
-use crate::place_of;
 use crate::put_span;
 use crate::span_end;
 
 // The place at which the last block ends, if the sectors from place p on are written behind a block that ends at `end` with the gap `gap`.
 fn end_of_later(track: &[u8], marks: &[u8], p: usize, end: usize, gap: usize) -> usize
-    requires { ⌜ Remaining (now track) (now marks) p false ⌝ }
-    requires { ⌜ end + gap ≤ 100000 ⌝ }
-    ensures { λ r. ⌜ ((xs : List Placed) → SectorsFrom (now (track .entry)) (now (marks .entry)) p false xs → r ≡ farthest end gap xs) ⌝ }
+    requires { ⌜ Remaining (now track) (now marks) p ⌝ }
+    requires { ⌜ (lastFirstCount < p) × (end + gap ≤ 100000) ⌝ }
+    ensures { λ r. ⌜ ((xs : List Placed) → SectorsFrom (now (track .entry)) (now (marks .entry)) p xs → r ≡ farthest end gap xs) ⌝ }
 {
     let mut p = p;
     let mut end = end;
     let mut gap = gap;
     while p < track.len() {
-        let x = sectors::sector_at(track, marks, false, p);
+        let x = sectors::sector_at(track, marks, p);
         let kl = x.key_length as u8;
         let dl = x.data_length as u16;
         end = end + gap + encode::sector_size(false, kl, dl);
@@ -50,14 +49,13 @@ fn write_later(
 )
     requires { ⌜ RemainingRoom (now track) (now marks) p at ⌝ }
     requires { ⌜ (length (now out) ≡ length (now track)) × (length (now «out_marks») ≡ length (now track)) ⌝ }
-    ensures bytes { λ _. ⌜ ((xs : List Placed) → SectorsFrom (now (track .entry)) (now (marks .entry)) p false xs → RoomFor (length (now (track .entry))) at xs → now (out .exit) ≡ take at (now (out .entry)) ++ bytesOf (laterCells (length (now (track .entry)) - at) xs)) ⌝ }
-    ensures marks { λ _. ⌜ ((xs : List Placed) → SectorsFrom (now (track .entry)) (now (marks .entry)) p false xs → RoomFor (length (now (track .entry))) at xs → now («out_marks» .exit) ≡ take at (now («out_marks» .entry)) ++ marksOf (laterCells (length (now (track .entry)) - at) xs)) ⌝ }
+    ensures bytes { λ _. ⌜ ((xs : List Placed) → SectorsFrom (now (track .entry)) (now (marks .entry)) p xs → RoomFor (length (now (track .entry))) at xs → now (out .exit) ≡ take at (now (out .entry)) ++ bytesOf (laterCells (length (now (track .entry)) - at) xs)) ⌝ }
+    ensures marks { λ _. ⌜ ((xs : List Placed) → SectorsFrom (now (track .entry)) (now (marks .entry)) p xs → RoomFor (length (now (track .entry))) at xs → now («out_marks» .exit) ≡ take at (now («out_marks» .entry)) ++ marksOf (laterCells (length (now (track .entry)) - at) xs)) ⌝ }
 {
     let mut p = p;
     let mut at = at;
     while p < track.len() {
-        let x = sectors::sector_at(track, marks, false, p);
-        let a = sectors::address_at(track, marks, false, p);
+        let x = sectors::sector_at(track, marks, p);
         let to = span_end(at, false, x.key_length, x.data_length, x.last, track.len());
         let k = x.key_place;
         let k_end = k + x.key_length;
@@ -70,7 +68,7 @@ fn write_later(
             to,
             false,
             x.flag,
-            a,
+            x.address,
             x.number,
             &track[k..k_end],
             &track[d..d_end],
@@ -80,48 +78,47 @@ fn write_later(
     }
 }
 
-// The place at which the last block ends, if the sector at place q gets the new key and data.
+// The place at which the last block ends, if the sector x at place q gets the new key and data.
 fn corrected_end(
     track: &[u8],
     marks: &[u8],
     q: usize,
-    first: bool,
+    x: sectors::SectorAt,
     key: &[u8],
     body: &[u8],
 ) -> usize
-    requires { ⌜ Remaining (now track) (now marks) q first ⌝ }
-    requires { ⌜ q < length (now track) ⌝ }
+    requires { ⌜ ReadAt (now track) (now marks) q x ⌝ }
     requires { ⌜ (length (now key) ≤ 255) × (length (now body) ≤ 65535) ⌝ }
-    ensures { λ r. ⌜ ((x : Placed) (xs : List Placed) → SectorsFrom (now (track .entry)) (now (marks .entry)) q first (x ∷ xs) → r ≡ correctedEnd q (now (key .entry)) (now (body .entry)) x xs) ⌝ }
+    ensures { λ r. ⌜ ((y : Placed) (ys : List Placed) → SectorsFrom (now (track .entry)) (now (marks .entry)) q (y ∷ ys) → r ≡ correctedEnd q (now (key .entry)) (now (body .entry)) y ys) ⌝ }
 {
-    let x = sectors::sector_at(track, marks, first, q);
     let kl = key.len() as u8;
     let dl = body.len() as u16;
+    let first = sectors::opens_first(q);
     let end = q + encode::sector_size(first, kl, dl);
     end_of_later(track, marks, x.next, end, encode::gap_one(kl, dl))
 }
 
-// Writes the new track: what stands before place q as it was, the sector there with the new key and data, and those behind it.
+// Writes the new track: what stands before place q as it was, the sector x there with the new key and data, and those behind it.
 fn write_corrected(
     track: &[u8],
     marks: &[u8],
     out: &mut [u8],
     out_marks: &mut [u8],
     q: usize,
-    first: bool,
+    x: sectors::SectorAt,
     key: &[u8],
     body: &[u8],
 )
-    requires { ⌜ Remaining (now track) (now marks) q first ⌝ }
-    requires { ⌜ (q < length (now track)) × ((x : Placed) (xs : List Placed) → SectorsFrom (now track) (now marks) q first (x ∷ xs) → correctedEnd q (now key) (now body) x xs ≤ length (now track)) ⌝ }
+    requires { ⌜ ReadAt (now track) (now marks) q x ⌝ }
+    requires { ⌜ ((y : Placed) (ys : List Placed) → SectorsFrom (now track) (now marks) q (y ∷ ys) → correctedEnd q (now key) (now body) y ys ≤ length (now track)) ⌝ }
     requires { ⌜ (length (now key) ≤ 255) × (length (now body) ≤ 65535) ⌝ }
     requires { ⌜ (length (now marks) ≡ length (now track)) × (length (now out) ≡ length (now track)) × (length (now «out_marks») ≡ length (now track)) ⌝ }
-    ensures bytes { λ _. ⌜ ((x : Placed) (xs : List Placed) → SectorsFrom (now (track .entry)) (now (marks .entry)) q first (x ∷ xs) → now (out .exit) ≡ take q (now (track .entry)) ++ bytesOf (correctedCells (length (now (track .entry))) q (now (key .entry)) (now (body .entry)) x xs)) ⌝ }
-    ensures marks { λ _. ⌜ ((x : Placed) (xs : List Placed) → SectorsFrom (now (track .entry)) (now (marks .entry)) q first (x ∷ xs) → now («out_marks» .exit) ≡ take q (now (marks .entry)) ++ marksOf (correctedCells (length (now (track .entry))) q (now (key .entry)) (now (body .entry)) x xs)) ⌝ }
+    ensures bytes { λ _. ⌜ ((y : Placed) (ys : List Placed) → SectorsFrom (now (track .entry)) (now (marks .entry)) q (y ∷ ys) → now (out .exit) ≡ take q (now (track .entry)) ++ bytesOf (correctedCells (length (now (track .entry))) q (now (key .entry)) (now (body .entry)) y ys)) ⌝ }
+    ensures marks { λ _. ⌜ ((y : Placed) (ys : List Placed) → SectorsFrom (now (track .entry)) (now (marks .entry)) q (y ∷ ys) → now («out_marks» .exit) ≡ take q (now (marks .entry)) ++ marksOf (correctedCells (length (now (track .entry))) q (now (key .entry)) (now (body .entry)) y ys)) ⌝ }
 {
-    let x = sectors::sector_at(track, marks, first, q);
-    let a = sectors::address_at(track, marks, first, q);
+    let a = x.address;
     let l = track.len();
+    let first = sectors::opens_first(q);
     let to = span_end(q, first, key.len(), body.len(), x.last, l);
     put_span(out, out_marks, q, to, first, x.flag, a, x.number, key, body);
     write_later(track, marks, out, out_marks, x.next, to);
@@ -146,15 +143,23 @@ fn correct_on(
     if !content_right(key, body) {
         return format::wanted_wrong();
     }
-    let q = place_of(track, marks, start, s);
-    if track.len() <= q {
+    let sought = sectors::place_of(track, marks, start, s);
+    if track.len() <= sought.place {
         return format::sector_missing();
     }
-    let first = q == start;
-    let end = corrected_end(track, marks, q, first, key, body);
+    let end = corrected_end(track, marks, sought.place, sought.sector, key, body);
     let a = judge_room(track.len(), end);
     if a.number == 0 {
-        write_corrected(track, marks, out, out_marks, q, first, key, body);
+        write_corrected(
+            track,
+            marks,
+            out,
+            out_marks,
+            sought.place,
+            sought.sector,
+            key,
+            body,
+        );
     }
     a
 }

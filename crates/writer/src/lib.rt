@@ -1,22 +1,18 @@
 // Writing a lent track: a blank one, one more sector, and a sector with a new key and data.
 ghost use mathlib.Core.Path.{_≡_};
 ghost use mathlib.Core.Bool.{true};
-ghost use mathlib.Core.List.{List};
 ghost use Prim.Native.Nat.{_+_, _-_, _≤_};
 ghost use lib.ListN.{length, take};
-ghost use lib.Dec.{eqb, leb};
+ghost use lib.Dec.{leb};
 ghost use Rattle.base.specs.Pick.{pick};
 ghost use Rattle.format.specs.Answer.{asAnswer, done, roomMissing};
 ghost use Rattle.format.specs.Lent.{bytesOf, marksOf, bothLent};
 ghost use Rattle.format.specs.Block.{leastGap};
-ghost use Rattle.format.specs.Accept.{Placed, fromNumber};
 ghost use Rattle.format.specs.Written.{gapOne, sectorSize};
 ghost use Rattle.format.specs.Sector.{contentRight};
-ghost use Rattle.sectors.proofs.From.{SectorsFrom};
 ghost use Rattle.encode.specs.Laid.{laidOver, laidAt};
 ghost use Rattle.encode.specs.Room.{sectorFrom};
 ghost use Rattle.writer.specs.Filled.{filledSpan};
-ghost use Rattle.writer.specs.Remaining.{Remaining};
 
 pub mod adding;
 pub mod blanking;
@@ -70,22 +66,6 @@ fn span_end(at: usize, first: bool, kl: usize, dl: usize, last: bool, l: usize) 
         return l;
     }
     at + encode::sector_size(first, kl as u8, dl as u16) + encode::gap_one(kl as u8, dl as u16)
-}
-
-// The place of the leftmost sector that carries S, or index where no sector does.
-fn place_of(track: &[u8], marks: &[u8], start: usize, s: u8) -> usize
-    requires { ⌜ Remaining (now track) (now marks) start true ⌝ }
-    ensures { λ r. ⌜ ((xs : List Placed) → SectorsFrom (now (track .entry)) (now (marks .entry)) start true xs → SectorsFrom (now (track .entry)) (now (marks .entry)) r (eqb r start) (fromNumber s xs)) ⌝ }
-{
-    let mut p = start;
-    while p < track.len() {
-        let x = sectors::sector_at(track, marks, p == start, p);
-        if x.number == s {
-            return p;
-        }
-        p = x.next;
-    }
-    p
 }
 
 // Copies the first n bytes and marks.

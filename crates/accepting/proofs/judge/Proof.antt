@@ -30,7 +30,7 @@ judge-behind-requires c κs =
     let a = c .before .before .before .before .before .before .before .before .args in
     let j = rw (c .before .home .given .1) at (c .before .before .before .judge-home .ensures) in
     let e = sym (c .before .before .before .before .before .lent-for-reading .ensures) ∙ not-false _ (c .before .before .before .before .if1 .left) in
-    (e, j .1 .1)
+    (e, j .1)
 
 returns-2 : tie.Need-returns-2
 returns-2 c =

@@ -1,5 +1,6 @@
 -- `judge_behind` meets its contract: marks, sectors and numbers in turn.
 use mathlib.Core.Path.{sym, _∙_}
+use native.Mathlib.Omega.{arith}
 use Rattle.format.specs.Lent.{cells}
 use Rattle.sector.specs.As.{asHome}
 use Rattle.accepting.proofs.AcceptBehind.{unstrayed, behind-stray, behind-refused, behind-opened, behind-numbers}
@@ -23,7 +24,7 @@ judge-sectors-requires : tie.Need-judge-sectors-requires
 judge-sectors-requires c κs =
     let a = c .before .before .before .before .before .before .args in
     let j = rw (c .enum-told .given .1) at (c .before .before .judge-marks .ensures) in
-    unstrayed (a .h .place) (a .track .now) (a .marks .now) (c .before .before .before .before .before .before .pre .1) (c .before .before .before .before .before .before .pre .0) (sym j)
+    unstrayed (a .h .place) (a .track .now) (a .marks .now) (c .before .before .before .before .before .before .pre .1 .1) (c .before .before .before .before .before .before .pre .0) (sym j)
 
 returns : tie.Need-returns
 returns c =
@@ -35,7 +36,7 @@ judge-numbers-requires : tie.Need-judge-numbers-requires
 judge-numbers-requires c κs =
     let a = c .before .before .before .before .before .before .before .before .before .args in
     let j = rw (c .before .before .before .enum-told .given .1) at (c .before .before .before .before .before .judge-marks .ensures) in
-    (unstrayed (a .h .place) (a .track .now) (a .marks .now) (c .before .before .before .before .before .before .before .before .before .pre .1) (c .before .before .before .before .before .before .before .before .before .pre .0) (sym j), behind-opened (asHome (a .h)) (cells (a .track .now) (a .marks .now)) j _ (c .before .before .judge-sectors .ensures) (c .if1 .left))
+    (unstrayed (a .h .place) (a .track .now) (a .marks .now) (c .before .before .before .before .before .before .before .before .before .pre .1 .1) (c .before .before .before .before .before .before .before .before .before .pre .0) (sym j), (behind-opened (asHome (a .h)) (cells (a .track .now) (a .marks .now)) j _ (c .before .before .judge-sectors .ensures) (c .if1 .left), (omega (arith, c .before .before .before .before .before .before .before .before .before .pre .1), omega (arith, c .before .before .before .before .before .before .before .before .before .pre .1))))
 
 enum-known-strayed : tie.Need-enum-known-strayed
 enum-known-strayed c = search needs

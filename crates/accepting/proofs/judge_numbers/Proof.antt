@@ -1,21 +1,21 @@
 -- `judge_numbers` meets its contract: the answer is that of the sectors left and of the numbers whose flags are set.
 use mathlib.Core.Path.{_≡_, refl, sym, ap, _∙_}
-use Prim.Native.Nat.{ℕ, _-_}
+use Prim.Native.Nat.{ℕ, _-_, _<_}
 use native.Mathlib.Omega.{arith}
 use borrow.Author.Needs.{needs}
 use lib.ListN.{length, drop, replicate, length-set, length-replicate}
 use Rattle.format.specs.Judged.{answerOf}
 use Rattle.format.specs.Lent.{cells}
 use Rattle.format.specs.Span.{laterSpans}
-use Rattle.sectors.specs.Stepped.{asStepped}
+use Rattle.sectors.specs.SectorAt.{lastFirstCount, asSectorAt}
 use Rattle.accepting.specs.Accepting.{Rest}
-use Rattle.accepting.proofs.AcceptNumbers.{flagged, flagged-none, passed, passed-rest, passed-repeated, passed-next, zero-rest, zero-flagged}
+use Rattle.accepting.proofs.AcceptNumbers.{flagged, flagged-none, passed, passed-rest, passed-repeated, passed-next, zero-behind, zero-rest, zero-flagged}
 use Rattle.accepting.proofs.judge_numbers.Statement.{statement}
 use Rattle.accepting.proofs.judge_numbers.Tie as tie
 
 abbrev Inv-loop : tie.InvT-loop
 Inv-loop track marks p seen₀ number q₀ seen q =
-    (length seen ≡ 256) × Rest q (drop q track) (drop q marks)
+    (length seen ≡ 256) × (q < length track → lastFirstCount < q) × Rest q (drop q track) (drop q marks)
     × (flagged seen₀ q₀ (laterSpans (cells (drop q₀ track) (drop q₀ marks))) ≡ flagged seen q (laterSpans (cells (drop q track) (drop q marks))))
 
 abbrev μ-loop : tie.MeasureT-loop
@@ -34,7 +34,7 @@ loop-holds : tie.Need-loop-holds Inv-loop μ-loop
 loop-holds c =
     let a = c .before .before .before .before .args in
     let y = c .before .sector-at in
-    (length-set (replicate 256 0) (y .result .number) 1 ∙ length-replicate {A = ℕ} 256 0, zero-rest (a .track .now) (a .marks .now) (a .p) (c .before .before .before .before .pre .0) (c .before .before .before .before .pre .1) (asStepped (y .result)) (y .ensures), refl)
+    (length-set (replicate 256 0) (y .result .number) 1 ∙ length-replicate {A = ℕ} 256 0, zero-behind (a .track .now) (a .marks .now) (a .p) (c .before .before .before .before .pre .0) (c .before .before .before .before .pre .1 .0) (c .before .before .before .before .pre .1 .1) (asSectorAt (y .result)) (y .ensures), zero-rest (a .track .now) (a .marks .now) (a .p) (c .before .before .before .before .pre .0) (c .before .before .before .before .pre .1 .0) (c .before .before .before .before .pre .1 .1) (asSectorAt (y .result)) (y .ensures), refl)
 
 sector-at-requires-2 : tie.Need-sector-at-requires-2 Inv-loop μ-loop
 sector-at-requires-2 c κs = search needs
@@ -53,10 +53,10 @@ returns c =
     let a = c .before .before .before .before .before .before .before .before .before .before .args in
     let x = c .before .before .before .before .before .loop in
     let y = c .before .before .before .sector-at2 in
-    let s = passed (a .track .now) (a .marks .now) (x .q) (asStepped (y .result)) (y .ensures) (c .before .before .before .before .loop-test .taken) (c .before .before .before .before .before .before .before .before .before .before .pre .0 .within) (x .inv .1) in
+    let s = passed (a .track .now) (a .marks .now) (x .q) (asSectorAt (y .result)) (y .ensures) (x .inv .1 (c .before .before .before .before .loop-test .taken)) (c .before .before .before .before .loop-test .taken) (c .before .before .before .before .before .before .before .before .before .before .pre .0 .within) (x .inv .2) in
     let z = c .before .before .before .before .before .before .before .sector-at in
     c .sector-repeated .ensures
-    ∙ sym (ap answerOf (zero-flagged (a .track .now) (a .marks .now) (a .p) (c .before .before .before .before .before .before .before .before .before .before .pre .0) (c .before .before .before .before .before .before .before .before .before .before .pre .1) (asStepped (z .result)) (z .ensures) ∙ x .inv .2 ∙ passed-repeated (a .track .now) (a .marks .now) (x .q) (y .result .number) (y .result .next) s (x .seen) (c .before .if1 .taken)))
+    ∙ sym (ap answerOf (zero-flagged (a .track .now) (a .marks .now) (a .p) (c .before .before .before .before .before .before .before .before .before .before .pre .0) (c .before .before .before .before .before .before .before .before .before .before .pre .1 .0) (c .before .before .before .before .before .before .before .before .before .before .pre .1 .1) (asSectorAt (z .result)) (z .ensures) ∙ x .inv .3 ∙ passed-repeated (a .track .now) (a .marks .now) (x .q) (y .result .number) (y .result .next) s (x .seen) (c .before .if1 .taken)))
 
 array-write-seen-2 : tie.Need-array-write-seen-2 Inv-loop μ-loop
 array-write-seen-2 c = search needs
@@ -66,7 +66,7 @@ loop-less c =
     let a = c .before .before .before .before .before .before .before .before .before .args in
     let x = c .before .before .before .before .loop in
     let y = c .before .before .sector-at2 in
-    let s = passed (a .track .now) (a .marks .now) (x .q) (asStepped (y .result)) (y .ensures) (c .before .before .before .loop-test .taken) (c .before .before .before .before .before .before .before .before .before .pre .0 .within) (x .inv .1) in
+    let s = passed (a .track .now) (a .marks .now) (x .q) (asSectorAt (y .result)) (y .ensures) (x .inv .1 (c .before .before .before .loop-test .taken)) (c .before .before .before .loop-test .taken) (c .before .before .before .before .before .before .before .before .before .pre .0 .within) (x .inv .2) in
     omega arith
 
 loop-again : tie.Need-loop-again Inv-loop μ-loop
@@ -74,8 +74,8 @@ loop-again c =
     let a = c .before .before .before .before .before .before .before .before .before .args in
     let x = c .before .before .before .before .loop in
     let y = c .before .before .sector-at2 in
-    let s = passed (a .track .now) (a .marks .now) (x .q) (asStepped (y .result)) (y .ensures) (c .before .before .before .loop-test .taken) (c .before .before .before .before .before .before .before .before .before .pre .0 .within) (x .inv .1) in
-    (length-set (x .seen) (y .result .number) 1 ∙ x .inv .0, passed-rest (a .track .now) (a .marks .now) (x .q) (y .result .number) (y .result .next) s, x .inv .2 ∙ passed-next (a .track .now) (a .marks .now) (x .q) (y .result .number) (y .result .next) s (x .seen) (c .if1 .left))
+    let s = passed (a .track .now) (a .marks .now) (x .q) (asSectorAt (y .result)) (y .ensures) (x .inv .1 (c .before .before .before .loop-test .taken)) (c .before .before .before .loop-test .taken) (c .before .before .before .before .before .before .before .before .before .pre .0 .within) (x .inv .2) in
+    (length-set (x .seen) (y .result .number) 1 ∙ x .inv .0, λ _. omega (arith, s .further, x .inv .1 (c .before .before .before .loop-test .taken)), passed-rest (a .track .now) (a .marks .now) (x .q) (y .result .number) (y .result .next) s, x .inv .3 ∙ passed-next (a .track .now) (a .marks .now) (x .q) (y .result .number) (y .result .next) s (x .seen) (c .if1 .left))
 
 done-requires : tie.Need-done-requires Inv-loop μ-loop
 done-requires c κs = search needs
@@ -86,7 +86,7 @@ returns-2 c =
     let x = c .before .before .loop in
     let z = c .before .before .before .before .sector-at in
     c .done .ensures
-    ∙ sym (ap answerOf (zero-flagged (a .track .now) (a .marks .now) (a .p) (c .before .before .before .before .before .before .before .pre .0) (c .before .before .before .before .before .before .before .pre .1) (asStepped (z .result)) (z .ensures) ∙ x .inv .2 ∙ flagged-none (x .seen) (x .q) (a .track .now) (a .marks .now) (c .before .loop-test .left)))
+    ∙ sym (ap answerOf (zero-flagged (a .track .now) (a .marks .now) (a .p) (c .before .before .before .before .before .before .before .pre .0) (c .before .before .before .before .before .before .before .pre .1 .0) (c .before .before .before .before .before .before .before .pre .1 .1) (asSectorAt (z .result)) (z .ensures) ∙ x .inv .3 ∙ flagged-none (x .seen) (x .q) (a .track .now) (a .marks .now) (c .before .loop-test .left)))
 
 pub judge-numbers-spec : {M : Type 1} → statement M
 judge-numbers-spec =

@@ -2,7 +2,7 @@
 use mathlib.Core.Path.{_∙_}
 use native.Mathlib.Omega.{arith}
 use borrow.Author.Needs.{needs}
-use Rattle.listing.proofs.Beginning.{first-count, first-refused, begun-short, begun-refused, begun-good}
+use Rattle.listing.proofs.Beginning.{first-count, counted, first-refused, begun-short, begun-refused, begun-good}
 use Rattle.listing.proofs.begin.Statement.{statement}
 use Rattle.listing.proofs.begin.Tie as tie
 
@@ -30,10 +30,7 @@ add-first c =
     omega (arith, j .1 .1)
 
 sector-count-requires : tie.Need-sector-count-requires
-sector-count-requires c κs =
-    let a = c .before .before .before .before .before .before .before .before .args in
-    let j = rw (c .before .before .judged .given .1) at (c .before .before .before .before .judge .ensures) in
-    first-count (a .track .now) (a .marks .now) _ (j .0)
+sector-count-requires c κs = search needs
 
 done-requires : tie.Need-done-requires
 done-requires c κs = search needs
@@ -50,7 +47,7 @@ returns-2 c =
     let j = rw (c .before .before .before .before .judged .given .1) at (c .before .before .before .before .before .before .judge .ensures) in
     let d = c .done in
     let k = c .before .sector-count in
-    begun-good (a .n) (a .track .now) (a .marks .now) _ (k .result) (d .result) (d .ensures) (omega arith) (first-count (a .track .now) (a .marks .now) _ (j .0)) (k .ensures)
+    begun-good (a .n) (a .track .now) (a .marks .now) _ (k .result) (d .result) (d .ensures) (omega arith) (first-count (a .track .now) (a .marks .now) _ (j .0)) (counted (a .track .now) (a .marks .now) _ _ (j .0) (k .ensures))
 
 returns-3 : tie.Need-returns-3
 returns-3 c =

@@ -1,16 +1,21 @@
 -- `sector_at` meets its contract: what follows the opening in the span is bytes of the track.
-use mathlib.Core.Path.{_∙_}
+use mathlib.Core.Path.{ap, _∙_}
 use mathlib.Core.List.{[]}
 use native.Mathlib.Omega.{arith}
 use Rattle.format.specs.Lent.{cells}
+use Rattle.format.specs.Sector.{openingLength}
+use Rattle.sectors.specs.SectorAt.{opensFirst}
 use Rattle.sector.proofs.Block.{opening-le}
-use Rattle.sectors.proofs.Rest.{opening-least, span-within, rest-none, rest-bytes, stepped-here, stepped-past}
+use Rattle.sectors.proofs.Rest.{opening-least, span-within, rest-none, rest-bytes, sector-here, sector-past}
 use borrow.Author.Needs.{needs}
 use Rattle.sectors.proofs.sector_at.Statement.{statement}
 use Rattle.sectors.proofs.sector_at.Tie as tie
 
 returns : tie.Need-returns
-returns c = let a = c .before .before .before .args in stepped-past (a .first) (a .p) (cells (a .track .now) (a .marks .now)) (c .if1 .taken)
+returns c = let a = c .before .before .before .args in sector-past (a .p) (cells (a .track .now) (a .marks .now)) (c .if1 .taken)
+
+opens-first-requires : tie.Need-opens-first-requires
+opens-first-requires c κs = search needs
 
 opening-length-requires : tie.Need-opening-length-requires
 opening-length-requires c κs = search needs
@@ -19,14 +24,14 @@ span-at-requires : tie.Need-span-at-requires
 span-at-requires c κs = search needs
 
 add-from : tie.Need-add-from
-add-from c = omega (arith, opening-le (c .before .before .before .before .before .args .first))
+add-from c = omega (arith, opening-le (c .before .before .opens-first .result))
 
 add-next : tie.Need-add-next
 add-next c =
-    let a = c .before .before .before .before .before .args in
+    let a = c .before .before .before .before .before .before .args in
     let s = c .span-at .ensures in
-    let w = c .before .opening-length .ensures in
-    omega (arith, span-within (a .track .now) (a .marks .now) (a .first) (a .p) _ _ w (s .0))
+    let w = c .before .opening-length .ensures ∙ ap openingLength (c .before .before .opens-first .ensures) in
+    omega (arith, span-within (a .track .now) (a .marks .now) (a .p) _ _ w (s .0))
 
 sub-sector-in : tie.Need-sub-sector-in
 sub-sector-in c = search needs
@@ -38,16 +43,16 @@ part-sector-in-end : tie.Need-part-sector-in-end
 part-sector-in-end c = search needs
 
 sector-in-requires : tie.Need-sector-in-requires
-sector-in-requires c κs = omega (arith, opening-le (c .before .before .before .before .before .before .before .args .first))
+sector-in-requires c κs = omega (arith, opening-le (c .before .before .before .before .opens-first .result))
 
 returns-2 : tie.Need-returns-2
 returns-2 c =
-    let a = c .before .before .before .before .before .before .before .before .args in
+    let a = c .before .before .before .before .before .before .before .before .before .args in
     let s = c .before .before .before .span-at .ensures in
-    let w = c .before .before .before .before .opening-length .ensures in
+    let w = c .before .before .before .before .opening-length .ensures ∙ ap openingLength (c .before .before .before .before .before .opens-first .ensures) in
     c .sector-in .ensures
-    ∙ stepped-here (a .track .now) (a .marks .now) (a .first) (a .p) _ _ w (s .0) (omega arith) _ (s .1 .0) []
-    (rest-none (a .track .now) (a .marks .now) (a .first) (a .p) _ _ w (s .0) (c .before .before .if2 .taken))
+    ∙ sector-here (a .track .now) (a .marks .now) (a .p) _ _ w (s .0) (omega arith) _ (s .1 .0) []
+    (rest-none (a .track .now) (a .marks .now) (a .p) _ _ w (s .0) (c .before .before .if2 .taken))
 
 sub-sector-in-2 : tie.Need-sub-sector-in-2
 sub-sector-in-2 c = search needs
@@ -57,28 +62,29 @@ part-sector-in-start-2 c = search needs
 
 part-sector-in-end-2 : tie.Need-part-sector-in-end-2
 part-sector-in-end-2 c =
-    let a = c .before .before .before .before .before .before .args in
+    let a = c .before .before .before .before .before .before .before .args in
     let s = c .before .span-at .ensures in
-    let w = c .before .before .opening-length .ensures in
-    omega (arith, span-within (a .track .now) (a .marks .now) (a .first) (a .p) _ _ w (s .0), opening-least (a .first))
+    let w = c .before .before .opening-length .ensures ∙ ap openingLength (c .before .before .before .opens-first .ensures) in
+    omega (arith, span-within (a .track .now) (a .marks .now) (a .p) _ _ w (s .0), opening-least (opensFirst (a .p)))
 
 sector-in-requires-2 : tie.Need-sector-in-requires-2
-sector-in-requires-2 c κs = omega (arith, opening-le (c .before .before .before .before .before .before .before .args .first))
+sector-in-requires-2 c κs = omega (arith, opening-le (c .before .before .before .before .opens-first .result))
 
 returns-3 : tie.Need-returns-3
 returns-3 c =
-    let a = c .before .before .before .before .before .before .before .before .args in
+    let a = c .before .before .before .before .before .before .before .before .before .args in
     let s = c .before .before .before .span-at .ensures in
-    let w = c .before .before .before .before .opening-length .ensures in
+    let w = c .before .before .before .before .opening-length .ensures ∙ ap openingLength (c .before .before .before .before .before .opens-first .ensures) in
     c .sector-in2 .ensures
-    ∙ stepped-here (a .track .now) (a .marks .now) (a .first) (a .p) _ _ w (s .0) (omega arith) _ (s .1 .0) _
-    (rest-bytes (a .track .now) (a .marks .now) (a .first) (a .p) _ _ w (s .0))
+    ∙ sector-here (a .track .now) (a .marks .now) (a .p) _ _ w (s .0) (omega arith) _ (s .1 .0) _
+    (rest-bytes (a .track .now) (a .marks .now) (a .p) _ _ w (s .0))
 
 pub sector-at-spec : {M : Type 1} → statement M
 sector-at-spec =
     tie.close
     (tie.spec
     returns
+    opens-first-requires
     opening-length-requires
     span-at-requires
     add-from

@@ -7,7 +7,7 @@ use lib.Dec.{eqb}
 use Rattle.base.specs.Pick.{pick}
 use Rattle.format.specs.Block.{keyOffset}
 use Rattle.format.proofs.Sector.BlockEnd.{offset-lt, end-lt}
-use Rattle.sectors.proofs.Rest.{key-place-none, key-place-some, stepped-made}
+use Rattle.sectors.proofs.Rest.{key-place-none, key-place-some, fields-made}
 use borrow.Author.Needs.{needs}
 use Rattle.sectors.proofs.sector_in.Statement.{statement}
 use Rattle.sectors.proofs.sector_in.Tie as tie
@@ -54,23 +54,27 @@ add-t16 c =
     let r = c .before .before .before .before .before .before .before .before .args .r .now in
     omega (arith, offset-lt r (omega (arith, g 6)))
 
+address-in-requires : tie.Need-address-in-requires
+address-in-requires c κs = search needs
+
 returns : tie.Need-returns
 returns c =
-    let a = c .before .before .before .before .before .before .before .before .args in
-    let k = c .before .before .before .before .before .before .key-length in
-    let v = c .before .before .before .if1 .key-place in
+    let a = c .before .before .before .before .before .before .before .before .before .args in
+    let k = c .before .before .before .before .before .before .before .key-length in
+    let v = c .before .before .before .before .if1 .key-place in
     let w : v ≡ pick (eqb (k .result) 0) 0 (a .q + keyOffset + 6) =
-    ⊎-elim (λ u. key-place-none (k .result) (a .q) v (u .0 .taken) (u .1)) (λ u. key-place-some (k .result) (a .q) v (u .0 .left) (u .1)) (c .before .before .before .if1 .came) in
-    stepped-made (a .q) (a .next) (a .last) (a .r .now) _
-    (c .before .before .byte-at .ensures)
-    (c .before .byte-at2 .ensures)
+    ⊎-elim (λ u. key-place-none (k .result) (a .q) v (u .0 .taken) (u .1)) (λ u. key-place-some (k .result) (a .q) v (u .0 .left) (u .1)) (c .before .before .before .before .if1 .came) in
+    fields-made (a .q) (a .next) (a .last) (a .r .now) _
+    (c .before .before .before .byte-at .ensures)
+    (c .before .before .byte-at2 .ensures)
     (k .ensures)
-    (c .before .before .before .before .before .data-length .ensures)
+    (c .before .before .before .before .before .before .data-length .ensures)
     w
-    (ap (λ (z : ℕ). a .q + z + 6) (c .data-offset .ensures))
-    (ap (λ (z : ℕ). a .q + z) (c .before .before .before .before .block-end .ensures))
+    (ap (λ (z : ℕ). a .q + z + 6) (c .before .data-offset .ensures))
+    (ap (λ (z : ℕ). a .q + z) (c .before .before .before .before .before .block-end .ensures))
     refl
     refl
+    (c .address-in .ensures)
 
 pub sector-in-spec : {M : Type 1} → statement M
 sector-in-spec =
@@ -87,4 +91,5 @@ sector-in-spec =
     data-offset-requires
     add-t15
     add-t16
+    address-in-requires
     returns)

@@ -2,7 +2,7 @@
 use mathlib.Core.Path.{sym, _∙_}
 use borrow.Author.Tests.{not-true, not-false}
 use Rattle.format.proofs.Written.Outcome.{after-refused}
-use Rattle.writer.proofs.Corrected.{readable-steps, readable-remaining, found-at, found-none}
+use Rattle.writer.proofs.Corrected.{readable-steps, found-at, found-none}
 use Rattle.writer.proofs.Added.{add-overflow, add-wanted, add-repeated}
 use borrow.Author.Needs.{needs}
 use Rattle.writer.proofs.adding.add_on.Statement.{statement}
@@ -35,40 +35,37 @@ returns-2 c =
     (add-wanted t m (a .start) r (a .b7) (a .s) (a .key .now) (a .body .now) (c .before .before .before .if1 .left) (sym (c .before .before .content-right .ensures) ∙ not-true _ (c .before .if2 .taken))) (c .wanted-wrong2 .ensures)
 
 place-of-requires : tie.Need-place-of-requires
-place-of-requires c κs =
-    let a = c .before .before .before .before .before .before .before .before .before .args in
-    let t = a .track .now in
-    let m = a .marks .now in
-    let r = c .before .before .before .before .before .before .before .before .before .pre .0 .readable in
-    readable-remaining t m (a .start) r
+place-of-requires c κs = search needs
 
 sector-repeated-requires : tie.Need-sector-repeated-requires
 sector-repeated-requires c κs = search needs
 
 returns-3 : tie.Need-returns-3
 returns-3 c =
-    let a = c .before .before .before .before .before .before .before .before .before .before .before .before .args in
-    let t = a .track .now in
-    let m = a .marks .now in
-    let r = c .before .before .before .before .before .before .before .before .before .before .before .before .pre .0 .readable in
-    let q = c .before .before .place-of .result in
-    let z = found-at t m (a .start) q (a .s) r (c .before .before .place-of .ensures (r .accepted .sectors) (readable-steps t m (a .start) r)) (c .before .if3 .taken) in
-    after-refused _ _ _ (a .out .now) (a .out-marks .now)
-    (add-repeated t m (a .start) r (a .b7) (a .s) (a .key .now) (a .body .now) (c .before .before .before .before .before .if1 .left) (sym (c .before .before .before .before .content-right .ensures) ∙ not-false _ (c .before .before .before .if2 .left)) (z .sector) (z .later) q (z .split) (z .place-is))
-    (c .sector-repeated .ensures)
-
-add-behind-requires : tie.Need-add-behind-requires
-add-behind-requires c κs =
     let a = c .before .before .before .before .before .before .before .before .before .before .before .before .before .args in
     let t = a .track .now in
     let m = a .marks .now in
     let r = c .before .before .before .before .before .before .before .before .before .before .before .before .before .pre .0 .readable in
-    let q = c .before .before .before .place-of .result in (
+    let found = c .before .before .before .place-of in
+    let q = found .result .place in
+    let z = found-at t m (a .start) q (a .s) r (found .ensures .0 (r .accepted .sectors) (readable-steps t m (a .start) r)) (c .before .if3 .taken) in
+    after-refused _ _ _ (a .out .now) (a .out-marks .now)
+    (add-repeated t m (a .start) r (a .b7) (a .s) (a .key .now) (a .body .now) (c .before .before .before .before .before .before .if1 .left) (sym (c .before .before .before .before .before .content-right .ensures) ∙ not-false _ (c .before .before .before .before .if2 .left)) (z .sector) (z .later) q (z .split) (z .place-is))
+    (c .sector-repeated .ensures)
+
+add-behind-requires : tie.Need-add-behind-requires
+add-behind-requires c κs =
+    let a = c .before .before .before .before .before .before .before .before .before .before .before .before .before .before .args in
+    let t = a .track .now in
+    let m = a .marks .now in
+    let r = c .before .before .before .before .before .before .before .before .before .before .before .before .before .before .pre .0 .readable in
+    let found = c .before .before .before .before .place-of in
+    let q = found .result .place in (
       record {
-        flagged = c .before .before .before .before .before .before .before .before .before .before .before .before .before .pre .0;
-        absent = found-none t m (a .start) q (a .s) r (c .before .before .before .place-of .ensures (r .accepted .sectors) (readable-steps t m (a .start) r)) (c .before .before .if3 .left);
+        flagged = c .before .before .before .before .before .before .before .before .before .before .before .before .before .before .pre .0;
+        absent = found-none t m (a .start) q (a .s) r (found .ensures .0 (r .accepted .sectors) (readable-steps t m (a .start) r)) (c .before .before .if3 .left);
       },
-      ((c .before .before .before .before .before .before .if1 .left, sym (c .before .before .before .before .before .content-right .ensures) ∙ not-false _ (c .before .before .before .before .if2 .left)), c .before .before .before .before .before .before .before .before .before .before .before .before .before .pre .1),
+      ((c .before .before .before .before .before .before .before .if1 .left, sym (c .before .before .before .before .before .before .content-right .ensures) ∙ not-false _ (c .before .before .before .before .before .if2 .left)), c .before .before .before .before .before .before .before .before .before .before .before .before .before .before .pre .1),
     )
 
 same-length : tie.Need-same-length

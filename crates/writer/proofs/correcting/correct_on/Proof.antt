@@ -5,19 +5,18 @@ use native.Mathlib.Omega.{arith}
 use mathlib.Core.Bool.{true}
 use mathlib.Core.List.{List, _∷_, _++_}
 use lib.ListN.{length, take}
-use lib.Dec.{eqb}
 use borrow.Author.Needs.{needs}
 use borrow.Author.Tests.{not-true, not-false}
 use Rattle.format.specs.Lent.{cells, unmarked}
 use Rattle.format.specs.Accept.{Placed}
 use Rattle.format.proofs.Cells.Opening.{unmarked-below}
-use Rattle.sectors.proofs.From.{SectorsFrom}
+use Rattle.sectors.specs.From.{SectorsFrom}
 use Rattle.writer.specs.Remaining.{correctedEnd, correctedCells}
 use Rattle.format.proofs.Written.Outcome.{after-refused, after-good}
 use Rattle.format.proofs.Track.Pairs.{pairOf}
 use Rattle.writer.proofs.Outcome.{room-done, room-short}
 use Rattle.writer.proofs.Filled.{content-bounds}
-use Rattle.writer.proofs.Corrected.{readable-steps, readable-remaining, readable-lengths, found-remaining, found-at, found-none, kept-bytes, kept-marks, correct-wanted, correct-missing, correct-short, correct-done}
+use Rattle.writer.proofs.Corrected.{readable-steps, readable-remaining, readable-lengths, found-read, found-at, found-none, kept-bytes, kept-marks, correct-wanted, correct-missing, correct-short, correct-done}
 use Rattle.writer.proofs.correcting.correct_on.Statement.{statement}
 use Rattle.writer.proofs.correcting.correct_on.Tie as tie
 
@@ -35,55 +34,53 @@ returns c =
     (c .wanted-wrong .ensures)
 
 place-of-requires : tie.Need-place-of-requires
-place-of-requires c κs = let a = c .before .before .before .before .before .before .before .before .args in readable-remaining (a .track .now) (a .marks .now) (a .start) (c .before .before .before .before .before .before .before .before .pre .0)
+place-of-requires c κs = search needs
 
 sector-missing-requires : tie.Need-sector-missing-requires
 sector-missing-requires c κs = search needs
 
 returns-2 : tie.Need-returns-2
 returns-2 c =
-    let a = c .before .before .before .before .before .before .before .before .before .before .before .args in
+    let a = c .before .before .before .before .before .before .before .before .before .before .before .before .args in
     let t = a .track .now in
     let m = a .marks .now in
-    let r = c .before .before .before .before .before .before .before .before .before .before .before .pre .0 in
-    let u = readable-remaining t m (a .start) r in
+    let r = c .before .before .before .before .before .before .before .before .before .before .before .before .pre .0 in
+    let found = c .before .before .before .place-of in
     after-refused _ _ _ (a .out .now) (a .out-marks .now)
-    (correct-missing t m (a .start) r (a .s) (a .key .now) (a .body .now) (sym (c .before .before .before .before .content-right .ensures) ∙ not-false _ (c .before .before .before .if1 .left))
-    (found-none t m (a .start) (c .before .before .place-of .result) (a .s) r (c .before .before .place-of .ensures (r .accepted .sectors) (readable-steps t m (a .start) r)) (c .before .if2 .taken)))
+    (correct-missing t m (a .start) r (a .s) (a .key .now) (a .body .now) (sym (c .before .before .before .before .before .content-right .ensures) ∙ not-false _ (c .before .before .before .before .if1 .left))
+    (found-none t m (a .start) (found .result .place) (a .s) r (found .ensures .0 (r .accepted .sectors) (readable-steps t m (a .start) r)) (c .before .if2 .taken)))
     (c .sector-missing .ensures)
 
 corrected-end-requires : tie.Need-corrected-end-requires
 corrected-end-requires c κs =
-    let a = c .before .before .before .before .before .before .before .before .before .before .args in
+    let a = c .before .before .before .before .before .before .before .before .before .before .before .args in
     let t = a .track .now in
     let m = a .marks .now in
-    let r = c .before .before .before .before .before .before .before .before .before .before .pre .0 in
-    let u = readable-remaining t m (a .start) r in (
-      found-remaining t m (a .start) (c .before .place-of .result) (a .s) r (c .before .place-of .ensures (r .accepted .sectors) (readable-steps t m (a .start) r)),
-      (c .if2 .left, content-bounds (a .key .now) (a .body .now) (sym (c .before .before .before .content-right .ensures) ∙ not-false _ (c .before .before .if1 .left))),
+    let r = c .before .before .before .before .before .before .before .before .before .before .before .pre .0 in
+    let found = c .before .before .place-of in (
+      found-read t m (a .start) (a .s) r (found .result .place) (found .result .sector) (found .ensures .0 (r .accepted .sectors) (readable-steps t m (a .start) r)) (c .if2 .left) (found .ensures .1),
+      content-bounds (a .key .now) (a .body .now) (sym (c .before .before .before .before .content-right .ensures) ∙ not-false _ (c .before .before .before .if1 .left)),
     )
 
 judge-room-requires : tie.Need-judge-room-requires
-judge-room-requires c κs = let a = c .before .before .before .before .before .before .before .before .before .before .before .args in omega (arith, readable-lengths (a .track .now) (a .marks .now) (a .start) (c .before .before .before .before .before .before .before .before .before .before .before .pre .0))
+judge-room-requires c κs = let a = c .before .before .before .before .before .before .before .before .before .before .before .before .args in omega (arith, readable-lengths (a .track .now) (a .marks .now) (a .start) (c .before .before .before .before .before .before .before .before .before .before .before .before .pre .0))
 
 write-corrected-requires : tie.Need-write-corrected-requires
 write-corrected-requires c κs =
-    let a = c .before .before .before .before .before .before .before .before .before .before .before .before .before .before .before .before .args in
+    let a = c .before .before .before .before .before .before .before .before .before .before .before .before .before .before .before .before .before .args in
     let t = a .track .now in
     let m = a .marks .now in
-    let r = c .before .before .before .before .before .before .before .before .before .before .before .before .before .before .before .before .pre .0 in
-    let u = readable-remaining t m (a .start) r in
-    let q = c .before .before .before .before .before .before .before .place-of .result in
+    let r = c .before .before .before .before .before .before .before .before .before .before .before .before .before .before .before .before .before .pre .0 in
+    let found = c .before .before .before .before .before .before .before .before .place-of in
+    let q = found .result .place in
     let k = readable-lengths t m (a .start) r in
     let judged = c .before .before .before .before .judge-room in
-    let fits = room-done (judged .result) (c .before .before .before .before .before .corrected-end .result) (length t) (judged .ensures) (c .before .before .if3 .taken) in
-    let room : (x : Placed) (xs : List Placed) → SectorsFrom t m q (eqb q (a .start)) (x ∷ xs) → correctedEnd q (a .key .now) (a .body .now) x xs ≤ length t =
-    λ x xs f. omega (arith, c .before .before .before .before .before .corrected-end .ensures x xs f, fits .0) in (
-      found-remaining t m (a .start) q (a .s) r (c .before .before .before .before .before .before .before .place-of .ensures (r .accepted .sectors) (readable-steps t m (a .start) r)),
-      (
-        (c .before .before .before .before .before .before .if2 .left, room),
-        (content-bounds (a .key .now) (a .body .now) (sym (c .before .before .before .before .before .before .before .before .before .content-right .ensures) ∙ not-false _ (c .before .before .before .before .before .before .before .before .if1 .left)), (k .1, c .before .before .before .before .before .before .before .before .before .before .before .before .before .before .before .before .pre .1 .0, c .before .before .before .before .before .before .before .before .before .before .before .before .before .before .before .before .pre .1 .1)),
-      ),
+    let end = c .before .before .before .before .before .corrected-end in
+    let fits = room-done (judged .result) (end .result) (length t) (judged .ensures) (c .before .before .if3 .taken) in
+    let room : (y : Placed) (ys : List Placed) → SectorsFrom t m q (y ∷ ys) → correctedEnd q (a .key .now) (a .body .now) y ys ≤ length t =
+    λ y ys f. omega (arith, end .ensures y ys f, fits .0) in (
+      found-read t m (a .start) (a .s) r q (found .result .sector) (found .ensures .0 (r .accepted .sectors) (readable-steps t m (a .start) r)) (c .before .before .before .before .before .before .if2 .left) (found .ensures .1),
+      (room, (content-bounds (a .key .now) (a .body .now) (sym (c .before .before .before .before .before .before .before .before .before .before .content-right .ensures) ∙ not-false _ (c .before .before .before .before .before .before .before .before .before .if1 .left)), (k .1, c .before .before .before .before .before .before .before .before .before .before .before .before .before .before .before .before .before .pre .1 .0, c .before .before .before .before .before .before .before .before .before .before .before .before .before .before .before .before .before .pre .1 .1))),
     )
 
 same-length : tie.Need-same-length
@@ -94,22 +91,24 @@ same-length-2 c = search needs
 
 returns-3 : tie.Need-returns-3
 returns-3 c =
-    let a = c .before .before .before .before .before .before .before .before .before .before .before .before .before .before .before .before .before .before .before .before .before .args in
+    let a = c .before .before .before .before .before .before .before .before .before .before .before .before .before .before .before .before .before .before .before .before .before .before .args in
     let t = a .track .now in
     let m = a .marks .now in
-    let r = c .before .before .before .before .before .before .before .before .before .before .before .before .before .before .before .before .before .before .before .before .before .pre .0 in
+    let r = c .before .before .before .before .before .before .before .before .before .before .before .before .before .before .before .before .before .before .before .before .before .before .pre .0 in
     let u = readable-remaining t m (a .start) r in
-    let q = c .before .before .before .before .before .before .before .before .before .before .before .before .place-of .result in
+    let found = c .before .before .before .before .before .before .before .before .before .before .before .before .before .place-of in
+    let q = found .result .place in
     let k = readable-lengths t m (a .start) r in
     let wrote = c .before .before .before .before .write-corrected in
-    let z = found-at t m (a .start) q (a .s) r (c .before .before .before .before .before .before .before .before .before .before .before .before .place-of .ensures (r .accepted .sectors) (readable-steps t m (a .start) r)) (c .before .before .before .before .before .before .before .before .before .before .before .if2 .left) in
-    let end : c .before .before .before .before .before .before .before .before .before .before .corrected-end .result ≡ correctedEnd q (a .key .now) (a .body .now) (z .sector) (z .later) = c .before .before .before .before .before .before .before .before .before .before .corrected-end .ensures (z .sector) (z .later) (z .steps) in
+    let z = found-at t m (a .start) q (a .s) r (found .ensures .0 (r .accepted .sectors) (readable-steps t m (a .start) r)) (c .before .before .before .before .before .before .before .before .before .before .before .if2 .left) in
+    let ended = c .before .before .before .before .before .before .before .before .before .before .corrected-end in
+    let end : ended .result ≡ correctedEnd q (a .key .now) (a .body .now) (z .sector) (z .later) = ended .ensures (z .sector) (z .later) (z .steps) in
     let judged = c .before .before .before .before .before .before .before .before .before .judge-room in
-    let fits = room-done (judged .result) (c .before .before .before .before .before .before .before .before .before .before .corrected-end .result) (length t) (judged .ensures) (c .before .before .before .before .before .before .before .if3 .taken) in
+    let fits = room-done (judged .result) (ended .result) (length t) (judged .ensures) (c .before .before .before .before .before .before .before .if3 .taken) in
     let W : ℕ → List ℕ = λ l. correctedCells l q (a .key .now) (a .body .now) (z .sector) (z .later) in
-    let bytes : unmarked t ≡ true = unmarked-below t (λ i. omega (arith, c .before .before .before .before .before .before .before .before .before .before .before .before .before .before .before .before .before .before .before .before .shared-slice-known .given i)) in
+    let bytes : unmarked t ≡ true = unmarked-below t (λ i. omega (arith, c .before .before .before .before .before .before .before .before .before .before .before .before .before .before .before .before .before .before .before .before .before .shared-slice-known .given i)) in
     after-good _ _ (pairOf (take q (cells t m) ++ W (length (cells t m)))) (a .out .now) (a .out-marks .now) (wrote .last .1 .1 .0) (wrote .last .1 .1 .1 .0)
-    (correct-done t m (a .start) r (a .s) (a .key .now) (a .body .now) (sym (c .before .before .before .before .before .before .before .before .before .before .before .before .before .before .content-right .ensures) ∙ not-false _ (c .before .before .before .before .before .before .before .before .before .before .before .before .before .if1 .left))
+    (correct-done t m (a .start) r (a .s) (a .key .now) (a .body .now) (sym (c .before .before .before .before .before .before .before .before .before .before .before .before .before .before .before .content-right .ensures) ∙ not-false _ (c .before .before .before .before .before .before .before .before .before .before .before .before .before .before .if1 .left))
     (z .sector) (z .later) (z .split) q (z .place-is) (omega (arith, c .before .before .before .before .before .before .before .before .before .before .before .if2 .left, u .cells-length)) (omega (arith, fits .0, end, u .cells-length)))
     (fits .1)
     (kept-bytes q t m (W (length t)) (W (length (cells t m))) (wrote .last .1 .1 .0) (k .1) bytes (ap W (sym (u .cells-length))) (wrote .ensures .0 (z .sector) (z .later) (z .steps)))
@@ -117,18 +116,20 @@ returns-3 c =
 
 returns-4 : tie.Need-returns-4
 returns-4 c =
-    let a = c .before .before .before .before .before .before .before .before .before .before .before .before .before .before .args in
+    let a = c .before .before .before .before .before .before .before .before .before .before .before .before .before .before .before .args in
     let t = a .track .now in
     let m = a .marks .now in
-    let r = c .before .before .before .before .before .before .before .before .before .before .before .before .before .before .pre .0 in
+    let r = c .before .before .before .before .before .before .before .before .before .before .before .before .before .before .before .pre .0 in
     let u = readable-remaining t m (a .start) r in
-    let q = c .before .before .before .before .before .place-of .result in
-    let z = found-at t m (a .start) q (a .s) r (c .before .before .before .before .before .place-of .ensures (r .accepted .sectors) (readable-steps t m (a .start) r)) (c .before .before .before .before .if2 .left) in
-    let end : c .before .before .before .corrected-end .result ≡ correctedEnd q (a .key .now) (a .body .now) (z .sector) (z .later) = c .before .before .before .corrected-end .ensures (z .sector) (z .later) (z .steps) in
+    let found = c .before .before .before .before .before .before .place-of in
+    let q = found .result .place in
+    let z = found-at t m (a .start) q (a .s) r (found .ensures .0 (r .accepted .sectors) (readable-steps t m (a .start) r)) (c .before .before .before .before .if2 .left) in
+    let ended = c .before .before .before .corrected-end in
+    let end : ended .result ≡ correctedEnd q (a .key .now) (a .body .now) (z .sector) (z .later) = ended .ensures (z .sector) (z .later) (z .steps) in
     let judged = c .before .before .judge-room in
-    let fits = room-short (judged .result) (c .before .before .before .corrected-end .result) (length t) (judged .ensures) (c .if3 .left) in
+    let fits = room-short (judged .result) (ended .result) (length t) (judged .ensures) (c .if3 .left) in
     after-refused _ _ _ (a .out .now) (a .out-marks .now)
-    (correct-short t m (a .start) r (a .s) (a .key .now) (a .body .now) (sym (c .before .before .before .before .before .before .before .content-right .ensures) ∙ not-false _ (c .before .before .before .before .before .before .if1 .left))
+    (correct-short t m (a .start) r (a .s) (a .key .now) (a .body .now) (sym (c .before .before .before .before .before .before .before .before .content-right .ensures) ∙ not-false _ (c .before .before .before .before .before .before .before .if1 .left))
     (z .sector) (z .later) (z .split) q (z .place-is) (omega (arith, c .before .before .before .before .if2 .left, u .cells-length)) (omega (arith, fits .0, end, u .cells-length)))
     (fits .1)
 

@@ -10,14 +10,14 @@ use Rattle.writer.proofs.Corrected.{later-remaining, later-steps, end-n
 use Rattle.writer.proofs.correcting.corrected_end.Statement.{statement}
 use Rattle.writer.proofs.correcting.corrected_end.Tie as tie
 
-sector-at-requires : tie.Need-sector-at-requires
-sector-at-requires c κs = search needs
-
 cast-kl : tie.Need-cast-kl
 cast-kl c = search needs
 
 cast-dl : tie.Need-cast-dl
 cast-dl c = search needs
+
+opens-first-requires : tie.Need-opens-first-requires
+opens-first-requires c κs = search needs
 
 sector-size-requires : tie.Need-sector-size-requires
 sector-size-requires c κs = search needs
@@ -26,7 +26,7 @@ add-end : tie.Need-add-end
 add-end c =
     let a = c .before .before .before .before .before .before .args in
     let pre = c .before .before .before .before .before .before .pre in
-    omega (arith, pre .1, pre .0 .length-most, c .sector-size .ensures, size-most (a .first) (length (a .key .now)) (length (a .body .now)))
+    omega (arith, pre .1, pre .0 .inside, pre .0 .remaining .length-most, c .sector-size .ensures, size-most (c .before .opens-first .result) (length (a .key .now)) (length (a .body .now)))
 
 gap-one-requires : tie.Need-gap-one-requires
 gap-one-requires c κs = search needs
@@ -35,27 +35,29 @@ end-of-later-requires : tie.Need-end-of-later-requires
 unfolding gapOne
 end-of-later-requires c κs =
     let a = c .before .before .before .before .before .before .before .args in
-    let pre = c .before .before .before .before .before .before .before .pre in (
-      later-remaining (a .track .now) (a .marks .now) (a .q) (a .first) (pre .0) (pre .1 .0) (c .before .before .sector-at .result) (c .before .before .sector-at .ensures),
-      omega (arith, pre .1, pre .0 .length-most, c .before .sector-size .ensures, c .gap-one .ensures, size-most (a .first) (length (a .key .now)) (length (a .body .now))),
+    let pre = c .before .before .before .before .before .before .before .pre in
+    let w = later-remaining (a .track .now) (a .marks .now) (a .q) (a .x) (pre .0) in (
+      w .0,
+      (w .1, omega (arith, pre .1, pre .0 .inside, pre .0 .remaining .length-most, c .before .sector-size .ensures, c .gap-one .ensures, size-most (c .before .before .opens-first .result) (length (a .key .now)) (length (a .body .now)))),
     )
 
 returns : tie.Need-returns
 returns c =
     let a = c .before .before .before .before .before .before .before .before .args in
-    let s = c .before .before .before .sector-at in
-    λ x xs f.
-    end-new (a .track .now) (a .marks .now) (a .q) (a .first) x xs f (s .result) (s .ensures) (a .key .now) (a .body .now) _ _ _
+    let pre = c .before .before .before .before .before .before .before .before .pre in
+    let first = c .before .before .before .opens-first in
+    λ y ys f.
+    end-new (a .track .now) (a .marks .now) (a .q) y ys f (a .x) (pre .0 .is-read) (first .result) (first .ensures) (a .key .now) (a .body .now) _ _ _
     (ap (λ (n : ℕ). a .q + n) (c .before .before .sector-size .ensures)) (c .before .gap-one .ensures)
-    (c .end-of-later .ensures xs (later-steps (a .track .now) (a .marks .now) (a .q) (a .first) x xs f (s .result) (s .ensures)))
+    (c .end-of-later .ensures ys (later-steps (a .track .now) (a .marks .now) (a .q) y ys f (a .x) (pre .0 .is-read)))
 
 pub corrected-end-spec : {M : Type 1} → statement M
 corrected-end-spec =
     tie.close
     (tie.spec
-    sector-at-requires
     cast-kl
     cast-dl
+    opens-first-requires
     sector-size-requires
     add-end
     gap-one-requires

@@ -7,7 +7,7 @@ use native.Mathlib.Omega.{arith}
 use lib.ListN.{length, take, drop}
 use borrow.Author.Needs.{needs}
 use Rattle.format.specs.Accept.{Placed}
-use Rattle.sectors.proofs.From.{SectorsFrom}
+use Rattle.sectors.specs.From.{SectorsFrom}
 use Rattle.writer.specs.Remaining.{RoomFor}
 use Rattle.writer.proofs.Later.{Writing, writing-now, cut-is, cut-length, cut-asks, going-start, going-within, going-end, going-lengths, going-parts, going-onward, going-room, going-next}
 use Rattle.writer.proofs.correcting.write_later.Statement.{statement}
@@ -25,21 +25,28 @@ loop-holds c = let b = c .before .before .before .before .pre .1 in (b .0, b .1,
 sector-at-requires : tie.Need-sector-at-requires Inv-loop μ-loop
 sector-at-requires c κs = search needs
 
-address-at-requires : tie.Need-address-at-requires Inv-loop μ-loop
-address-at-requires c κs = search needs
-
 span-end-requires : tie.Need-span-end-requires Inv-loop μ-loop
 span-end-requires c κs =
-    let a = c .before .before .before .before .before .before .before .before .args in
-    let u = c .before .before .before .before .before .before .before .before .pre .0 in
-    let o = c .before .before .before .loop in
+    let a = c .before .before .before .before .before .before .before .args in
+    let u = c .before .before .before .before .before .before .before .pre .0 in
+    let o = c .before .before .loop in
     let i = writing-now (a .track .now) (a .marks .now) (a .p) (a .at) (a .out .now) (a .out-marks .now) (o .p) (o .at) (o .out) (o .out-marks) u (o .inv) in
     let whole = u .remaining .cells-length in
     let h = going-within (a .track .now) (a .marks .now) (o .p) (o .at) (o .out) (o .out-marks) _ _ i whole in
-    (going-lengths (a .track .now) (a .marks .now) (o .p) (o .at) (o .out) (o .out-marks) _ _ i whole (c .before .before .loop-test .taken) (c .before .sector-at .result) (c .before .sector-at .ensures), omega (arith, h, u .remaining .length-most))
+    (going-lengths (a .track .now) (a .marks .now) (o .p) (o .at) (o .out) (o .out-marks) _ _ i whole (c .before .loop-test .taken) (c .sector-at .result) (c .sector-at .ensures), omega (arith, h, u .remaining .length-most))
 
 add-k-end : tie.Need-add-k-end Inv-loop μ-loop
 add-k-end c =
+    let a = c .before .before .before .before .before .before .before .before .before .args in
+    let u = c .before .before .before .before .before .before .before .before .before .pre .0 in
+    let o = c .before .before .before .before .loop in
+    let i = writing-now (a .track .now) (a .marks .now) (a .p) (a .at) (a .out .now) (a .out-marks .now) (o .p) (o .at) (o .out) (o .out-marks) u (o .inv) in
+    let whole = u .remaining .cells-length in
+    let h = going-parts (a .track .now) (a .marks .now) (o .p) (o .at) (o .out) (o .out-marks) _ _ i whole (c .before .before .before .loop-test .taken) (c .before .before .sector-at .result) (c .before .before .sector-at .ensures) in
+    omega (arith, h, u .remaining .length-most)
+
+add-d-end : tie.Need-add-d-end Inv-loop μ-loop
+add-d-end c =
     let a = c .before .before .before .before .before .before .before .before .before .before .args in
     let u = c .before .before .before .before .before .before .before .before .before .before .pre .0 in
     let o = c .before .before .before .before .before .loop in
@@ -48,38 +55,38 @@ add-k-end c =
     let h = going-parts (a .track .now) (a .marks .now) (o .p) (o .at) (o .out) (o .out-marks) _ _ i whole (c .before .before .before .before .loop-test .taken) (c .before .before .before .sector-at .result) (c .before .before .before .sector-at .ensures) in
     omega (arith, h, u .remaining .length-most)
 
-add-d-end : tie.Need-add-d-end Inv-loop μ-loop
-add-d-end c =
-    let a = c .before .before .before .before .before .before .before .before .before .before .before .args in
-    let u = c .before .before .before .before .before .before .before .before .before .before .before .pre .0 in
-    let o = c .before .before .before .before .before .before .loop in
-    let i = writing-now (a .track .now) (a .marks .now) (a .p) (a .at) (a .out .now) (a .out-marks .now) (o .p) (o .at) (o .out) (o .out-marks) u (o .inv) in
-    let whole = u .remaining .cells-length in
-    let h = going-parts (a .track .now) (a .marks .now) (o .p) (o .at) (o .out) (o .out-marks) _ _ i whole (c .before .before .before .before .before .loop-test .taken) (c .before .before .before .before .sector-at .result) (c .before .before .before .before .sector-at .ensures) in
-    omega (arith, h, u .remaining .length-most)
-
 sub-put-span : tie.Need-sub-put-span Inv-loop μ-loop
 sub-put-span c =
-    let a = c .before .before .before .before .before .before .before .before .before .before .before .before .before .args in
-    let u = c .before .before .before .before .before .before .before .before .before .before .before .before .before .pre .0 in
-    let o = c .before .before .before .before .before .before .before .before .loop in
+    let a = c .before .before .before .before .before .before .before .before .before .before .before .before .args in
+    let u = c .before .before .before .before .before .before .before .before .before .before .before .before .pre .0 in
+    let o = c .before .before .before .before .before .before .before .loop in
     let i = writing-now (a .track .now) (a .marks .now) (a .p) (a .at) (a .out .now) (a .out-marks .now) (o .p) (o .at) (o .out) (o .out-marks) u (o .inv) in
     let whole = u .remaining .cells-length in
-    let h = going-parts (a .track .now) (a .marks .now) (o .p) (o .at) (o .out) (o .out-marks) _ _ i whole (c .before .before .before .before .before .before .before .loop-test .taken) (c .before .before .before .before .before .before .sector-at .result) (c .before .before .before .before .before .before .sector-at .ensures) in
+    let h = going-parts (a .track .now) (a .marks .now) (o .p) (o .at) (o .out) (o .out-marks) _ _ i whole (c .before .before .before .before .before .before .loop-test .taken) (c .before .before .before .before .before .sector-at .result) (c .before .before .before .before .before .sector-at .ensures) in
     omega (arith, h)
 
 part-put-span-start : tie.Need-part-put-span-start Inv-loop μ-loop
 part-put-span-start c =
-    let a = c .before .before .before .before .before .before .before .before .before .before .before .before .before .args in
-    let u = c .before .before .before .before .before .before .before .before .before .before .before .before .before .pre .0 in
-    let o = c .before .before .before .before .before .before .before .before .loop in
+    let a = c .before .before .before .before .before .before .before .before .before .before .before .before .args in
+    let u = c .before .before .before .before .before .before .before .before .before .before .before .before .pre .0 in
+    let o = c .before .before .before .before .before .before .before .loop in
     let i = writing-now (a .track .now) (a .marks .now) (a .p) (a .at) (a .out .now) (a .out-marks .now) (o .p) (o .at) (o .out) (o .out-marks) u (o .inv) in
     let whole = u .remaining .cells-length in
-    let h = going-parts (a .track .now) (a .marks .now) (o .p) (o .at) (o .out) (o .out-marks) _ _ i whole (c .before .before .before .before .before .before .before .loop-test .taken) (c .before .before .before .before .before .before .sector-at .result) (c .before .before .before .before .before .before .sector-at .ensures) in
+    let h = going-parts (a .track .now) (a .marks .now) (o .p) (o .at) (o .out) (o .out-marks) _ _ i whole (c .before .before .before .before .before .before .loop-test .taken) (c .before .before .before .before .before .sector-at .result) (c .before .before .before .before .before .sector-at .ensures) in
     omega (arith, h)
 
 part-put-span-end : tie.Need-part-put-span-end Inv-loop μ-loop
 part-put-span-end c =
+    let a = c .before .before .before .before .before .before .before .before .before .before .before .before .args in
+    let u = c .before .before .before .before .before .before .before .before .before .before .before .before .pre .0 in
+    let o = c .before .before .before .before .before .before .before .loop in
+    let i = writing-now (a .track .now) (a .marks .now) (a .p) (a .at) (a .out .now) (a .out-marks .now) (o .p) (o .at) (o .out) (o .out-marks) u (o .inv) in
+    let whole = u .remaining .cells-length in
+    let h = going-parts (a .track .now) (a .marks .now) (o .p) (o .at) (o .out) (o .out-marks) _ _ i whole (c .before .before .before .before .before .before .loop-test .taken) (c .before .before .before .before .before .sector-at .result) (c .before .before .before .before .before .sector-at .ensures) in
+    omega (arith, h)
+
+sub-put-span-2 : tie.Need-sub-put-span-2 Inv-loop μ-loop
+sub-put-span-2 c =
     let a = c .before .before .before .before .before .before .before .before .before .before .before .before .before .args in
     let u = c .before .before .before .before .before .before .before .before .before .before .before .before .before .pre .0 in
     let o = c .before .before .before .before .before .before .before .before .loop in
@@ -88,47 +95,37 @@ part-put-span-end c =
     let h = going-parts (a .track .now) (a .marks .now) (o .p) (o .at) (o .out) (o .out-marks) _ _ i whole (c .before .before .before .before .before .before .before .loop-test .taken) (c .before .before .before .before .before .before .sector-at .result) (c .before .before .before .before .before .before .sector-at .ensures) in
     omega (arith, h)
 
-sub-put-span-2 : tie.Need-sub-put-span-2 Inv-loop μ-loop
-sub-put-span-2 c =
-    let a = c .before .before .before .before .before .before .before .before .before .before .before .before .before .before .args in
-    let u = c .before .before .before .before .before .before .before .before .before .before .before .before .before .before .pre .0 in
-    let o = c .before .before .before .before .before .before .before .before .before .loop in
-    let i = writing-now (a .track .now) (a .marks .now) (a .p) (a .at) (a .out .now) (a .out-marks .now) (o .p) (o .at) (o .out) (o .out-marks) u (o .inv) in
-    let whole = u .remaining .cells-length in
-    let h = going-parts (a .track .now) (a .marks .now) (o .p) (o .at) (o .out) (o .out-marks) _ _ i whole (c .before .before .before .before .before .before .before .before .loop-test .taken) (c .before .before .before .before .before .before .before .sector-at .result) (c .before .before .before .before .before .before .before .sector-at .ensures) in
-    omega (arith, h)
-
 part-put-span-start-2 : tie.Need-part-put-span-start-2 Inv-loop μ-loop
 part-put-span-start-2 c =
-    let a = c .before .before .before .before .before .before .before .before .before .before .before .before .before .before .args in
-    let u = c .before .before .before .before .before .before .before .before .before .before .before .before .before .before .pre .0 in
-    let o = c .before .before .before .before .before .before .before .before .before .loop in
+    let a = c .before .before .before .before .before .before .before .before .before .before .before .before .before .args in
+    let u = c .before .before .before .before .before .before .before .before .before .before .before .before .before .pre .0 in
+    let o = c .before .before .before .before .before .before .before .before .loop in
     let i = writing-now (a .track .now) (a .marks .now) (a .p) (a .at) (a .out .now) (a .out-marks .now) (o .p) (o .at) (o .out) (o .out-marks) u (o .inv) in
     let whole = u .remaining .cells-length in
-    let h = going-parts (a .track .now) (a .marks .now) (o .p) (o .at) (o .out) (o .out-marks) _ _ i whole (c .before .before .before .before .before .before .before .before .loop-test .taken) (c .before .before .before .before .before .before .before .sector-at .result) (c .before .before .before .before .before .before .before .sector-at .ensures) in
+    let h = going-parts (a .track .now) (a .marks .now) (o .p) (o .at) (o .out) (o .out-marks) _ _ i whole (c .before .before .before .before .before .before .before .loop-test .taken) (c .before .before .before .before .before .before .sector-at .result) (c .before .before .before .before .before .before .sector-at .ensures) in
     omega (arith, h)
 
 part-put-span-end-2 : tie.Need-part-put-span-end-2 Inv-loop μ-loop
 part-put-span-end-2 c =
+    let a = c .before .before .before .before .before .before .before .before .before .before .before .before .before .args in
+    let u = c .before .before .before .before .before .before .before .before .before .before .before .before .before .pre .0 in
+    let o = c .before .before .before .before .before .before .before .before .loop in
+    let i = writing-now (a .track .now) (a .marks .now) (a .p) (a .at) (a .out .now) (a .out-marks .now) (o .p) (o .at) (o .out) (o .out-marks) u (o .inv) in
+    let whole = u .remaining .cells-length in
+    let h = going-parts (a .track .now) (a .marks .now) (o .p) (o .at) (o .out) (o .out-marks) _ _ i whole (c .before .before .before .before .before .before .before .loop-test .taken) (c .before .before .before .before .before .before .sector-at .result) (c .before .before .before .before .before .before .sector-at .ensures) in
+    omega (arith, h)
+
+put-span-requires : tie.Need-put-span-requires Inv-loop μ-loop
+put-span-requires c κs =
     let a = c .before .before .before .before .before .before .before .before .before .before .before .before .before .before .args in
     let u = c .before .before .before .before .before .before .before .before .before .before .before .before .before .before .pre .0 in
     let o = c .before .before .before .before .before .before .before .before .before .loop in
     let i = writing-now (a .track .now) (a .marks .now) (a .p) (a .at) (a .out .now) (a .out-marks .now) (o .p) (o .at) (o .out) (o .out-marks) u (o .inv) in
     let whole = u .remaining .cells-length in
+    let x = c .before .before .before .before .before .before .before .sector-at .result in
     let h = going-parts (a .track .now) (a .marks .now) (o .p) (o .at) (o .out) (o .out-marks) _ _ i whole (c .before .before .before .before .before .before .before .before .loop-test .taken) (c .before .before .before .before .before .before .before .sector-at .result) (c .before .before .before .before .before .before .before .sector-at .ensures) in
-    omega (arith, h)
-
-put-span-requires : tie.Need-put-span-requires Inv-loop μ-loop
-put-span-requires c κs =
-    let a = c .before .before .before .before .before .before .before .before .before .before .before .before .before .before .before .args in
-    let u = c .before .before .before .before .before .before .before .before .before .before .before .before .before .before .before .pre .0 in
-    let o = c .before .before .before .before .before .before .before .before .before .before .loop in
-    let i = writing-now (a .track .now) (a .marks .now) (a .p) (a .at) (a .out .now) (a .out-marks .now) (o .p) (o .at) (o .out) (o .out-marks) u (o .inv) in
-    let whole = u .remaining .cells-length in
-    let x = c .before .before .before .before .before .before .before .before .sector-at .result in
-    let h = going-parts (a .track .now) (a .marks .now) (o .p) (o .at) (o .out) (o .out-marks) _ _ i whole (c .before .before .before .before .before .before .before .before .before .loop-test .taken) (c .before .before .before .before .before .before .before .before .sector-at .result) (c .before .before .before .before .before .before .before .before .sector-at .ensures) in
-    let n = going-lengths (a .track .now) (a .marks .now) (o .p) (o .at) (o .out) (o .out-marks) _ _ i whole (c .before .before .before .before .before .before .before .before .before .loop-test .taken) (c .before .before .before .before .before .before .before .before .sector-at .result) (c .before .before .before .before .before .before .before .before .sector-at .ensures) in
-    let r = going-room (a .track .now) (a .marks .now) (o .p) (o .at) (o .out) (o .out-marks) _ _ i whole (c .before .before .before .before .before .before .before .before .before .loop-test .taken) (c .before .before .before .before .before .before .before .before .sector-at .result) (c .before .before .before .before .before .before .before .before .sector-at .ensures) (c .before .before .before .before .before .before .span-end .result) (c .before .before .before .before .before .before .span-end .ensures) in
+    let n = going-lengths (a .track .now) (a .marks .now) (o .p) (o .at) (o .out) (o .out-marks) _ _ i whole (c .before .before .before .before .before .before .before .before .loop-test .taken) (c .before .before .before .before .before .before .before .sector-at .result) (c .before .before .before .before .before .before .before .sector-at .ensures) in
+    let r = going-room (a .track .now) (a .marks .now) (o .p) (o .at) (o .out) (o .out-marks) _ _ i whole (c .before .before .before .before .before .before .before .before .loop-test .taken) (c .before .before .before .before .before .before .before .sector-at .result) (c .before .before .before .before .before .before .before .sector-at .ensures) (c .before .before .before .before .before .before .span-end .result) (c .before .before .before .before .before .before .span-end .ensures) in
     cut-asks false (o .at) (c .before .before .before .before .before .before .span-end .result) (x .«key_length») (x .«data_length») (length (a .track .now))
     (take (x .«key_place» + x .«key_length» - x .«key_place») (drop (x .«key_place») (a .track .now)))
     (take (x .«data_place» + x .«data_length» - x .«data_place») (drop (x .«data_place») (a .track .now)))
@@ -139,27 +136,27 @@ put-span-requires c κs =
 
 loop-less : tie.Need-loop-less Inv-loop μ-loop
 loop-less c =
-    let a = c .before .before .before .before .before .before .before .before .before .before .before .before .before .before .before .before .before .before .before .before .args in
-    let u = c .before .before .before .before .before .before .before .before .before .before .before .before .before .before .before .before .before .before .before .before .pre .0 in
-    let o = c .before .before .before .before .before .before .before .before .before .before .before .before .before .before .before .loop in
+    let a = c .before .before .before .before .before .before .before .before .before .before .before .before .before .before .before .before .before .before .before .args in
+    let u = c .before .before .before .before .before .before .before .before .before .before .before .before .before .before .before .before .before .before .before .pre .0 in
+    let o = c .before .before .before .before .before .before .before .before .before .before .before .before .before .before .loop in
     let i = writing-now (a .track .now) (a .marks .now) (a .p) (a .at) (a .out .now) (a .out-marks .now) (o .p) (o .at) (o .out) (o .out-marks) u (o .inv) in
     let whole = u .remaining .cells-length in
-    let h = going-onward (a .track .now) (a .marks .now) (o .p) (o .at) (o .out) (o .out-marks) _ _ i whole (c .before .before .before .before .before .before .before .before .before .before .before .before .before .before .loop-test .taken) (c .before .before .before .before .before .before .before .before .before .before .before .before .before .sector-at .result) (c .before .before .before .before .before .before .before .before .before .before .before .before .before .sector-at .ensures) in
+    let h = going-onward (a .track .now) (a .marks .now) (o .p) (o .at) (o .out) (o .out-marks) _ _ i whole (c .before .before .before .before .before .before .before .before .before .before .before .before .before .loop-test .taken) (c .before .before .before .before .before .before .before .before .before .before .before .before .sector-at .result) (c .before .before .before .before .before .before .before .before .before .before .before .before .sector-at .ensures) in
     omega (arith, h)
 
 loop-again : tie.Need-loop-again Inv-loop μ-loop
 loop-again c =
-    let a = c .before .before .before .before .before .before .before .before .before .before .before .before .before .before .before .before .before .before .before .before .args in
-    let u = c .before .before .before .before .before .before .before .before .before .before .before .before .before .before .before .before .before .before .before .before .pre .0 in
-    let o = c .before .before .before .before .before .before .before .before .before .before .before .before .before .before .before .loop in
-    let x = c .before .before .before .before .before .before .before .before .before .before .before .before .before .sector-at .result in
+    let a = c .before .before .before .before .before .before .before .before .before .before .before .before .before .before .before .before .before .before .before .args in
+    let u = c .before .before .before .before .before .before .before .before .before .before .before .before .before .before .before .before .before .before .before .pre .0 in
+    let o = c .before .before .before .before .before .before .before .before .before .before .before .before .before .before .loop in
+    let x = c .before .before .before .before .before .before .before .before .before .before .before .before .sector-at .result in
     let w = c .before .before .before .before .put-span in
     let t = a .track .now in (
       w .kept .0 ∙ o .inv .0,
       w .kept .1 .0 ∙ o .inv .1,
       λ F G g.
-          going-next t (a .marks .now) (o .p) (o .at) (o .out) (o .out-marks) F G (o .inv .2 F G g) (u .remaining .cells-length) (c .before .before .before .before .before .before .before .before .before .before .before .before .before .before .loop-test .taken) x (c .before .before .before .before .before .before .before .before .before .before .before .before .before .sector-at .ensures)
-          (c .before .before .before .before .before .before .before .before .before .before .before .span-end .result) (c .before .before .before .before .before .before .before .before .before .before .before .span-end .ensures) (c .before .before .before .before .before .before .before .before .before .before .before .before .address-at .result) _ _ (w .last .0) (w .last .1 .0) (c .before .before .before .before .before .before .before .before .before .before .before .before .address-at .ensures)
+          going-next t (a .marks .now) (o .p) (o .at) (o .out) (o .out-marks) F G (o .inv .2 F G g) (u .remaining .cells-length) (c .before .before .before .before .before .before .before .before .before .before .before .before .before .loop-test .taken) x (c .before .before .before .before .before .before .before .before .before .before .before .before .sector-at .ensures)
+          (c .before .before .before .before .before .before .before .before .before .before .before .span-end .result) (c .before .before .before .before .before .before .before .before .before .before .before .span-end .ensures) _ _ (w .last .0) (w .last .1 .0)
           (cut-is (x .«key_place») (x .«key_length») t) (cut-is (x .«data_place») (x .«data_length») t) (o .inv .0) (o .inv .1) (w .ensures .0) (w .ensures .1),
     )
 
@@ -174,9 +171,9 @@ returns c =
     let a = c .before .before .before .before .before .before .args in
     let u = c .before .before .before .before .before .before .pre .0 in
     let o = c .before .loop in
-    let done : (xs : List Placed) (s : SectorsFrom (a .track .now) (a .marks .now) (a .p) false xs) (r : RoomFor (length (a .track .now)) (a .at) xs) → _ =
+    let done : (xs : List Placed) (s : SectorsFrom (a .track .now) (a .marks .now) (a .p) xs) (r : RoomFor (length (a .track .now)) (a .at) xs) → _ =
     λ xs s r.
-    let i = o .inv .2 _ _ (going-start (a .track .now) (a .marks .now) (a .p) (a .at) (a .out .now) (a .out-marks .now) xs s r) in
+    let i = o .inv .2 _ _ (going-start (a .track .now) (a .marks .now) (a .p) (a .at) (a .out .now) (a .out-marks .now) xs s (u .behind) r) in
     going-end (a .track .now) (a .marks .now) (o .p) (o .at) (o .out) (o .out-marks) _ _ i (u .remaining .cells-length) (c .loop-test .left) (o .inv .0) (o .inv .1) in
     (λ xs s r. done xs s r .0, λ xs s r. done xs s r .1)
 
@@ -188,7 +185,6 @@ write-later-spec =
     μ-loop
     loop-holds
     sector-at-requires
-    address-at-requires
     span-end-requires
     add-k-end
     add-d-end

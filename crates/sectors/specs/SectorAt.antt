@@ -10,10 +10,11 @@ use Rattle.format.specs.Count.{countFlag, countAddress, countNumber, keyLength,
 use Rattle.format.specs.Block.{keyOffset, dataOffset, blockEnd}
 use Rattle.format.specs.Span.{runsToIndex, spanLength, afterOpening}
 use Rattle.format.specs.Sector.{openingLength}
-use Rattle.sectors.specs.declared.SectorAt.{SectorAt}
+use Rattle.sector.specs.As.{asAddress}
+use Rattle.sectors.specs.declared.SectorAt.{SectorAt as SectorCode}
 
 -- The fields of a count, the places of the information, where the data block ends, where the next span starts, and does this one run to index?
-pub record Stepped : Type 0 where
+pub record SectorAt : Type 0 where
   pub flag : ℕ
   -- S.
   pub number : ℕ
@@ -25,10 +26,12 @@ pub record Stepped : Type 0 where
   pub end : ℕ
   pub next : ℕ
   pub last : Bool
+  -- C and H.
+  pub address : Address
 
 -- The sector of which r follows the count's opening from place q on, where the next span starts at `next`.
-unfoldable pub steppedIn : ℕ → ℕ → Bool → List ℕ → Stepped
-steppedIn q next last r =
+unfoldable pub sectorFields : ℕ → ℕ → Bool → List ℕ → SectorAt
+sectorFields q next last r =
     record {
       flag = countFlag r;
       number = countNumber r;
@@ -39,30 +42,46 @@ steppedIn q next last r =
       end = q + blockEnd r;
       next = next;
       last = last;
+      address = countAddress r;
     }
 
 -- Behind the longest track there is no sector.
-abbrev pub nowhere : Stepped
+abbrev pub nowhere : SectorAt
 nowhere =
-    record { flag = 0; number = 0; keyLength = 0; dataLength = 0; keyPlace = 0; dataPlace = 0; end = 0; next = 0; last = true }
+    record {
+      flag = 0;
+      number = 0;
+      keyLength = 0;
+      dataLength = 0;
+      keyPlace = 0;
+      dataPlace = 0;
+      end = 0;
+      next = 0;
+      last = true;
+      address = record { cylinder = 0; head = 0 };
+    }
+
+-- The last place at which sector 0's count opens: home starts at 37 at the latest and has 14 bytes, and 11 follow it.
+abbrev pub lastFirstCount : ℕ
+lastFirstCount = 37 + 14 + 11
+
+-- The count that opens at place p is sector 0's: every later one opens behind the last place of sector 0's.
+unfoldable pub opensFirst : ℕ → Bool
+opensFirst p = leb p lastFirstCount
 
 -- What follows the count's opening at place p in its span.
-unfoldable pub restAt : Bool → ℕ → List ℕ → List ℕ
-restAt first p c = afterOpening (openingLength first) (drop p c)
+unfoldable pub restAt : ℕ → List ℕ → List ℕ
+restAt p c = afterOpening (openingLength (opensFirst p)) (drop p c)
 
 -- The sector whose count opens at place p of the cells c; no place is above 4,002, the largest L.
-unfoldable pub steppedAt : Bool → ℕ → List ℕ → Stepped
-steppedAt first p c =
-    let o = openingLength first in
-    pick (leb p 4002) (steppedIn (p + o) (p + spanLength o (drop p c)) (runsToIndex o (drop p c)) (restAt first p c)) nowhere
-
--- C and H of the count that opens at place p.
-unfoldable pub addressAt : Bool → ℕ → List ℕ → Address
-addressAt first p c = countAddress (restAt first p c)
+unfoldable pub sectorAt : ℕ → List ℕ → SectorAt
+sectorAt p c =
+    let o = openingLength (opensFirst p) in
+    pick (leb p 4002) (sectorFields (p + o) (p + spanLength o (drop p c)) (runsToIndex o (drop p c)) (restAt p c)) nowhere
 
 -- What a value of the code says.
-abbrev pub asStepped : SectorAt → Stepped
-asStepped s =
+abbrev pub asSectorAt : SectorCode → SectorAt
+asSectorAt s =
     record {
       flag = s .flag;
       number = s .number;
@@ -73,4 +92,5 @@ asStepped s =
       end = s .end;
       next = s .next;
       last = s .last;
+      address = asAddress (s .address);
     }
