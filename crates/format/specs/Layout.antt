@@ -1,6 +1,13 @@
 -- The lengths that the layout of a track is made of, in bytes.
 use Prim.Native.Nat.{ℕ, _+_}
 
+-- The least and the greatest L.
+abbrev pub shortestTrack : ℕ
+shortestTrack = 3815
+
+abbrev pub longestTrack : ℕ
+longestTrack = 4002
+
 -- The first and the last place at which home starts.
 abbrev pub homeFirst : ℕ
 homeFirst = 23

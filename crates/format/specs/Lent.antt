@@ -3,11 +3,12 @@ use Prim.Native.Nat.{ℕ, _+_, _*_, _/_, _%_}
 use mathlib.Core.Bool.{Bool, true, _&&_}
 use mathlib.Core.List.{List, [], _∷_, map}
 use lib.ListN.{length}
+use Rattle.format.specs.Layout.{shortestTrack, longestTrack}
 use lib.Dec.{leb, ltb, eqb}
 
 -- L is 3,815 to 4,002.
 unfoldable pub lengthRight : ℕ → Bool
-lengthRight l = leb 3815 l && leb l 4002
+lengthRight l = leb shortestTrack l && leb l longestTrack
 
 -- Every mark is 0 or 1.
 unfoldable pub marksLegal : List ℕ → Bool

@@ -12,6 +12,11 @@ pub const MARKED_OPENING_MARKS: [u8; 8] = [0, 0, 0, 0, 0, 1, 1, 0];
 // The closing byte.
 pub const CLOSING_BYTE: u8 = 0xCC;
 
+// The least and the greatest L.
+pub const SHORTEST: usize = 3815;
+
+pub const LONGEST: usize = 4002;
+
 // The first and the last place at which home starts.
 pub const HOME_FIRST: usize = 23;
 

@@ -6,6 +6,7 @@ ghost use Rattle.format.specs.Judged.{answerOf};
 ghost use Rattle.format.specs.Lent.{cells};
 ghost use Rattle.format.specs.Listing.{mostSectors, list};
 ghost use Rattle.listing.specs.Filling.{recordsOf, asRecords, filled, recordAt, refusedBy, begun, empty};
+use format::layout::HOME_TO_COUNT;
 
 // A sector record: flag, S, KL, DL and the places of the information, the key's 0 where KL = 0.
 pub struct Sector {
@@ -72,7 +73,7 @@ fn begin(track: &[u8], marks: &[u8], n: usize) -> Begun
     let judged = accepting::judge(track, marks);
     match judged {
         accepting::Judged::Accepted(h) => {
-            let first = h.place + 25;
+            let first = h.place + HOME_TO_COUNT;
             let count = sectors::sector_count(track, marks, first);
             let answer = format::done();
             let listing = Listing { answer, count };

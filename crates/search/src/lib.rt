@@ -13,20 +13,22 @@ ghost use Rattle.search.specs.Place.{judgedPlace, inWindow};
 ghost use Rattle.search.specs.Stray.{judgedMarks};
 use format::layout::HOME_FIRST;
 use format::layout::HOME_LAST;
+use format::layout::LONGEST;
 use format::layout::MARKED;
 use format::layout::MARKED_OPENING;
 use format::layout::MARKED_OPENING_MARKS;
 use format::layout::PLAIN;
 use format::layout::PLAIN_OPENING;
+use format::layout::SHORTEST;
 
 // Whether L is in range, 3,815 to 4,002.
 fn length_right(l: usize) -> bool
     ensures { λ r. ⌜ r ≡ lengthRight l ⌝ }
 {
-    if l < 3815 {
+    if l < SHORTEST {
         return false;
     }
-    l <= 4002
+    l <= LONGEST
 }
 
 // Whether a pair of the lengths l and k is lent for writing within the rule.

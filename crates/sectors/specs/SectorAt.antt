@@ -5,6 +5,7 @@ use mathlib.Core.List.{List}
 use lib.ListN.{drop}
 use lib.Dec.{leb, eqb}
 use Rattle.base.specs.Pick.{pick}
+use Rattle.format.specs.Layout.{longestTrack, homeLast, plainLength, homeToCount}
 use Rattle.format.specs.Address.{Address}
 use Rattle.format.specs.Count.{countFlag, countAddress, countNumber, keyLength, dataLength}
 use Rattle.format.specs.Block.{keyOffset, dataOffset, blockEnd}
@@ -37,8 +38,8 @@ sectorFields q next last r =
       number = countNumber r;
       keyLength = keyLength r;
       dataLength = dataLength r;
-      keyPlace = pick (eqb (keyLength r) 0) 0 (q + keyOffset + 6);
-      dataPlace = q + dataOffset r + 6;
+      keyPlace = pick (eqb (keyLength r) 0) 0 (q + keyOffset + plainLength);
+      dataPlace = q + dataOffset r + plainLength;
       end = q + blockEnd r;
       next = next;
       last = last;
@@ -63,7 +64,7 @@ nowhere =
 
 -- The last place at which sector 0's count opens: home starts at 37 at the latest and has 14 bytes, and 11 follow it.
 abbrev pub lastFirstCount : ℕ
-lastFirstCount = 37 + 14 + 11
+lastFirstCount = homeLast + homeToCount
 
 -- The count that opens at place p is sector 0's: every later one opens behind the last place of sector 0's.
 unfoldable pub opensFirst : ℕ → Bool
@@ -77,7 +78,7 @@ restAt p c = afterOpening (openingLength (opensFirst p)) (drop p c)
 unfoldable pub sectorAt : ℕ → List ℕ → SectorAt
 sectorAt p c =
     let o = openingLength (opensFirst p) in
-    pick (leb p 4002) (sectorFields (p + o) (p + spanLength o (drop p c)) (runsToIndex o (drop p c)) (restAt p c)) nowhere
+    pick (leb p longestTrack) (sectorFields (p + o) (p + spanLength o (drop p c)) (runsToIndex o (drop p c)) (restAt p c)) nowhere
 
 -- What a value of the code says.
 abbrev pub asSectorAt : SectorCode → SectorAt

@@ -11,11 +11,15 @@ pub mod seeking;
 pub use counting::sector_count;
 pub use ending::Last;
 pub use ending::last_of;
+use format::layout::HOME_LAST;
+use format::layout::HOME_TO_COUNT;
+use format::layout::LONGEST;
+use format::layout::PLAIN;
 pub use seeking::Sought;
 pub use seeking::place_of;
 
 // The last place at which sector 0's count opens: home starts at 37 at the latest and has 14 bytes, and 11 follow it.
-const LAST_FIRST_COUNT: usize = 37 + 14 + 11;
+const LAST_FIRST_COUNT: usize = HOME_LAST + HOME_TO_COUNT;
 
 // A sector: flag, S, KL, DL, the places of its information, where its data block ends, where the next span starts, whether its own span runs to index, and C and H.
 pub struct SectorAt {
@@ -42,7 +46,7 @@ fn sector_in(q: usize, next: usize, last: bool, r: &[u8]) -> SectorAt
     let key_place = if key_length == 0 {
         0
     } else {
-        q + sector::KEY_OFFSET + 6
+        q + sector::KEY_OFFSET + PLAIN
     };
     SectorAt {
         flag: sector::byte_at(r, 0),
@@ -50,7 +54,7 @@ fn sector_in(q: usize, next: usize, last: bool, r: &[u8]) -> SectorAt
         key_length,
         data_length,
         key_place,
-        data_place: q + sector::data_offset(r) + 6,
+        data_place: q + sector::data_offset(r) + PLAIN,
         end,
         next,
         last,
@@ -69,7 +73,7 @@ pub fn opens_first(p: usize) -> bool
 pub fn sector_at(track: &[u8], marks: &[u8], p: usize) -> SectorAt
     ensures { λ s. ⌜ asSectorAt s ≡ sectorAt p (cells (now (track .entry)) (now (marks .entry))) ⌝ }
 {
-    if 4002 < p {
+    if LONGEST < p {
         let address = sector::Address {
             cylinder: 0,
             head: 0,
