@@ -17,19 +17,9 @@ use Rattle.format.specs.Span.{none}
 use Rattle.format.specs.Sector.{openingLength, isFirst, sectorIn, settle, judgeCount, readBlocks, judgeSector, readSpan}
 use Rattle.format.specs.Accept.{readSpans}
 use Rattle.base.proofs.Tests.{cases}
-use Rattle.format.specs.Blocks.{theKey, theData, blocksAt, judgeFit}
-use Rattle.format.proofs.Sector.BlocksJudged.{fit-zero, partIn, part-zero}
-use Rattle.format.proofs.Base.Judged.{require-zero}
-
--- An outcome whose answer is not 0 is a refusal, and what would follow is not reached.
-pub refusal-stays : {A B : Type 0} (j : Judged A) (k : A → Judged B) → (answerOf j .number ≡ 0 → ⊥) → answerOf (then j k) ≡ answerOf j
-refusal-stays (good x) k h = absurd (h refl)
-refusal-stays (refused a) k h = refl
-
--- Where one judgement after another answers 0, the first does.
-pub then-zero : {A B : Type 0} (j : Judged A) (k : A → Judged B) → answerOf (then j k) .number ≡ 0 → answerOf j .number ≡ 0
-then-zero (good x) k e = refl
-then-zero (refused a) k e = e
+use Rattle.format.specs.Blocks.{theKey, theData, blocksAt, judgeFit, partIn}
+use Rattle.format.proofs.Sector.BlocksJudged.{fit-zero, part-zero}
+use Rattle.format.proofs.Base.Judged.{require-zero, then-zero, refusal-stays, answer-then}
 
 -- The count is good where its answer is 0.
 pub count-zero : (h : Home) (i : ℕ) (x : Settled) (p : ℕ) (r : List ℕ) → answerOf (judgeCount h i x p r) .number ≡ 0 → judgeCount h i x p r ≡ good tt
@@ -81,11 +71,6 @@ module _ (h : Home) (i : ℕ) (x : Settled) (p : ℕ) (last : Bool) (r : List �
       (λ z.
       let n : answerOf (judgeCount h i x p r) .number ≡ 0 → ⊥ = eqb-false _ _ z in
       absurd (n (ap (λ (a : Answer). a .number) (sym (refusal-stays (judgeCount h i x p r) (λ _. readBlocks (isFirst i) p last r) n)) ∙ e)))
-
--- The answer does not turn on what is made of a good value.
-pub answer-then : {A B : Type 0} (j : Judged A) (f : A → B) → answerOf (then j (λ x. good (f x))) ≡ answerOf j
-answer-then (good x) f = refl
-answer-then (refused a) f = refl
 
 then-same : {A B : Type 0} (j : Judged A) (k l : A → Judged B) → ((x : A) → k x ≡ l x) → then j k ≡ then j l
 then-same (good x) k l h = h x

@@ -22,8 +22,8 @@ use Rattle.format.proofs.Sector.ReadsAs.{Reads, read-reads, reads-read}
 use Rattle.format.proofs.Spans.Marks.{marks-clean}
 use Rattle.format.proofs.Spans.StrayMark.{marks-stray}
 use Rattle.accepting.specs.Accepting.{NoStrayMark, numbersIn}
-use Rattle.accepting.proofs.AcceptAnswers.{refusal-stays, answer-then, sector-zero}
-use Rattle.format.proofs.Base.Judged.{require-zero}
+use Rattle.accepting.proofs.AcceptAnswers.{sector-zero}
+use Rattle.format.proofs.Base.Judged.{refusal-stays, answer-then, require-zero}
 use Rattle.accepting.proofs.AcceptFirst.{opens-first}
 
 -- A step whose answer is 0 began with the answer 0.

@@ -27,7 +27,8 @@ use Rattle.format.proofs.Track.Pairs.{length-cells, drop-cells}
 use Rattle.format.proofs.Find.CandidateBytes.{after-bytes}
 use Rattle.sector.proofs.Opening.{plain-length}
 use Rattle.accepting.specs.Accepting.{Rest, NoStrayMark}
-use Rattle.accepting.proofs.AcceptAnswers.{refusal-stays, answer-then, sector-zero}
+use Rattle.accepting.proofs.AcceptAnswers.{sector-zero}
+use Rattle.format.proofs.Base.Judged.{refusal-stays, answer-then}
 use Rattle.accepting.proofs.AcceptSpans.{before-later}
 
 -- Sector 0 opens on the track where it opens in its span.

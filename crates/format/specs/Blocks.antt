@@ -19,6 +19,15 @@ pub record Part : Type 0 where
 unfoldable pub partAt : ℕ → ℕ → Part
 partAt p n = record { start = pick (eqb n 0) 0 p; size = n }
 
+-- Which part of a sector is asked for.
+pub data Wanted : Type 0 where
+  theKey theData : Wanted
+
+-- The part that the information of the key or of the data takes in r, which follows a count's opening from place q on.
+abbrev pub partIn : Wanted → ℕ → List ℕ → Part
+partIn theKey q r = partAt (q + keyOffset + plainLength) (keyLength r)
+partIn theData q r = partAt (q + dataOffset r + plainLength) (dataLength r)
+
 -- What follows a count's opening: the key and the data block, each as the part that its information takes or the answer that refuses it, and the place at which the data block ends.
 pub record Blocks : Type 0 where
   pub key : Judged Part
@@ -29,14 +38,10 @@ pub record Blocks : Type 0 where
 unfoldable pub blocksAt : ℕ → List ℕ → Blocks
 blocksAt q r =
     record {
-      key = require (keyRight r) (keyWrong (q + keyOffset)) (good (partAt (q + keyOffset + plainLength) (keyLength r)));
-      body = require (dataRight r) (dataWrong (q + dataOffset r)) (good (partAt (q + dataOffset r + plainLength) (dataLength r)));
+      key = require (keyRight r) (keyWrong (q + keyOffset)) (good (partIn theKey q r));
+      body = require (dataRight r) (dataWrong (q + dataOffset r)) (good (partIn theData q r));
       end = q + blockEnd r;
     }
-
--- Which part of a sector is asked for.
-pub data Wanted : Type 0 where
-  theKey theData : Wanted
 
 -- The block that is asked for.
 abbrev pub wantedPart : Wanted → Blocks → Judged Part

@@ -1,29 +1,30 @@
 -- Laws of Find: the only candidate that carries S, and the part of it that is asked for.
-use mathlib.Core.Path.{_≡_, ap, _∙_}
+use mathlib.Core.Path.{_≡_, ap, _∙_, sym}
 use Prim.Native.Nat.{ℕ, _+_, _-_, _≤_}
 use native.Mathlib.Omega.{arith}
 use mathlib.Core.Bool.{Bool, true, false}
 use mathlib.Core.List.{List, [], _∷_}
 use lib.ListN.{length, take, drop, length-take, length-drop}
-use lib.Dec.{eqb}
-use borrow.Author.Tests.{eq-eqb, ne-eqb}
+use lib.Dec.{eqb, leb}
+use borrow.Author.Tests.{eq-eqb, ne-eqb, leb-true}
 use Rattle.base.specs.Pick.{pick}
-use Rattle.format.specs.Answer.{lentWrong, sectorMissing, sectorRepeated, spanTooShort, keyWrong, dataWrong}
-use Rattle.format.specs.Judged.{Judged, good, refused}
-use Rattle.format.specs.Lent.{lentForReading, cells}
+use Rattle.format.specs.Answer.{lentWrong, sectorMissing, sectorRepeated, Answer}
+use Rattle.format.specs.Judged.{Judged, good, refused, answerOf}
+use Rattle.format.specs.Lent.{lentForReading, cells, lengthRight}
 use Rattle.format.specs.Home.{findHome}
-use Rattle.format.specs.Count.{countNumber, keyLength, dataLength}
-use Rattle.format.specs.Block.{blocksFit, keyRight, dataRight, keyOffset, dataOffset}
-use Rattle.format.specs.Sector.{openingLength}
+use Rattle.format.specs.Count.{countNumber}
 use Rattle.format.specs.Candidate.{Candidate, candidates}
 use Rattle.format.specs.Find.{carrying, only, candidatePart, findCells, find}
-use Rattle.format.specs.Blocks.{Wanted, theKey, theData, Part, partAt, blocksAt, judgeFit}
-use Rattle.format.proofs.Sector.BlocksJudged.{offsetOf, lengthOf, block-fits}
+use Rattle.format.specs.Blocks.{Wanted, Part, partAt, blocksAt, judgeFit, wantedPart, partIn}
+use Rattle.format.proofs.Sector.BlocksJudged.{offsetOf, lengthOf, block-fits, fit-good, fit-zero, part-zero}
 use Rattle.reader.specs.Finding.{asCandidate, asPart}
 use Rattle.reader.specs.declared.candidate.Candidate.{Candidate as CandidateCode}
 use Rattle.reader.specs.declared.finding.Part.{Part as PartCode}
 use Rattle.reader.proofs.CandidateNext.{candidatesAt, carrying-first, none-first}
 use Rattle.format.proofs.Find.FindParts.{behindCount}
+use Rattle.format.proofs.Base.Judged.{refusal-is}
+use Rattle.format.proofs.Track.Pairs.{lent-length}
+use Rattle.base.proofs.Tests.{and-both}
 
 -- A candidate that carries s is kept,
 pub carrying-here : (s : ℕ) (x : Candidate) (ys : List Candidate) → countNumber (x .rest) ≡ s → carrying s (x ∷ ys) ≡ x ∷ carrying s ys
@@ -60,39 +61,46 @@ module _ (s : ℕ) (w : Wanted) (c : List ℕ) (h : Judged ℕ) (f : h ≡ findH
     unfolding findCells only
     find-only k = rw (both, none-first (carrying s (candidatesAt h (x .place + 1) c)) k)
 
--- The part asked for of the candidate x.
-module _ (x : Candidate) where
+-- The part asked for of the candidate x of the track t, where r follows its opening.
+module _ (w : Wanted) (t : List ℕ) (x : CandidateCode) (r : List ℕ) (e : r ≡ asCandidate t x .rest) where
+  -- The candidate, and where its count's bytes begin.
+  abbrev y : Candidate
+  y = asCandidate t x
+
+  abbrev q : ℕ
+  q = behindCount y
+
+  fit-here : judgeFit (y .place) (y .last) (y .rest) ≡ judgeFit (x .place) (x .last) r
+  fit-here = ap (judgeFit (x .place) (x .last)) (sym e)
+
+  wanted-here : wantedPart w (blocksAt q (y .rest)) ≡ wantedPart w (blocksAt q r)
+  wanted-here = ap (λ (z : List ℕ). wantedPart w (blocksAt q z)) (sym e)
+
   -- Its blocks do not fit.
-  pub part-short : (w : Wanted) → blocksFit (x .last) (x .rest) ≡ false → candidatePart w x ≡ refused (spanTooShort (x .place))
-  unfolding candidatePart judgeFit
-  part-short w f = rw f
+  pub part-short : (a : Answer) → a ≡ answerOf (judgeFit (x .place) (x .last) r) → (a .number ≡ 0 → ⊥) → refused a ≡ candidatePart w (asCandidate t x)
+  unfolding candidatePart
+  part-short a h n = sym (rw (fit-here ∙ refusal-is (judgeFit (x .place) (x .last) r) a h n))
 
-  module _ (f : blocksFit (x .last) (x .rest) ≡ true) where
-    -- The key is right, or not.
-    pub key-found : keyRight (x .rest) ≡ true → candidatePart theKey x ≡ good (partAt (behindCount x + keyOffset + 6) (keyLength (x .rest)))
-    unfolding candidatePart judgeFit blocksAt
-    key-found e = rw (f, e)
+  -- They fit, by the answer a.
+  module _ (a : Answer) (i : a ≡ answerOf (judgeFit (x .place) (x .last) r)) (z : a .number ≡ 0) where
+    fitting : judgeFit (x .place) (x .last) r ≡ good tt
+    fitting = fit-zero (x .place) (x .last) r (ap (λ (b : Answer). b .number) (sym i) ∙ z)
 
-    pub key-refused : keyRight (x .rest) ≡ false → candidatePart theKey x ≡ refused (keyWrong (behindCount x + keyOffset))
-    unfolding candidatePart judgeFit blocksAt
-    key-refused e = rw (f, e)
+    -- The block asked for, with its check and closing byte, lies within the track.
+    pub part-inside : q + offsetOf w r + 6 + lengthOf w r + 3 ≤ length t
+    part-inside =
+        let l : length r ≡ length (take (x .size) (drop q t)) = ap length e in
+        omega (arith, l, block-fits w (x .last) r (fit-good (x .place) (x .last) r tt fitting), length-take (x .size) (drop q t), length-drop q t)
 
-    -- The data block is right, or not.
-    pub data-found : dataRight (x .rest) ≡ true → candidatePart theData x ≡ good (partAt (behindCount x + dataOffset (x .rest) + 6) (dataLength (x .rest)))
-    unfolding candidatePart judgeFit blocksAt
-    data-found e = rw (f, e)
+    -- It is wrong.
+    pub part-refused : (b : Answer) → b ≡ answerOf (wantedPart w (blocksAt q r)) → (b .number ≡ 0 → ⊥) → refused b ≡ candidatePart w (asCandidate t x)
+    unfolding candidatePart
+    part-refused b h n = sym (rw (fit-here ∙ fitting) (wanted-here ∙ refusal-is (wantedPart w (blocksAt q r)) b h n))
 
-    pub data-refused : dataRight (x .rest) ≡ false → candidatePart theData x ≡ refused (dataWrong (behindCount x + dataOffset (x .rest)))
-    unfolding candidatePart judgeFit blocksAt
-    data-refused e = rw (f, e)
-
--- The block asked for of a candidate, with its check and closing byte, lies within the track.
-pub part-inside : (w : Wanted) (t : List ℕ) (x : CandidateCode) (r : List ℕ) → r ≡ asCandidate t x .rest → blocksFit (x .last) r ≡ true
-    → x .place + openingLength (x .first) + offsetOf w r + 6 + lengthOf w r + 3 ≤ length t
-part-inside w t x r e f =
-    let q : ℕ = x .place + openingLength (x .first) in
-    let l : length r ≡ length (take (x .size) (drop q t)) = ap length e in
-    omega (arith, l, block-fits w (x .last) r f, length-take (x .size) (drop q t), length-drop q t)
+    -- It is right, by the answer b.
+    pub part-found : (b : Answer) → b ≡ answerOf (wantedPart w (blocksAt q r)) → b .number ≡ 0 → good (partIn w q r) ≡ candidatePart w (asCandidate t x)
+    unfolding candidatePart
+    part-found b h n = sym (rw (fit-here ∙ fitting) (wanted-here ∙ part-zero w q r (ap (λ (c : Answer). c .number) (sym h) ∙ n)))
 
 -- A part of k bytes from place p on lies within n bytes.
 pub found-inside : (x : PartCode) (p k n : ℕ) → asPart x ≡ partAt p k → p + k ≤ n → x .start + x .size ≤ n
@@ -105,6 +113,11 @@ found-inside x p k n e l =
     go : (b : Bool) → pick b 0 p ≤ p
     go true = omega arith
     go false = omega arith
+
+-- A track that is lent within the rule has 4,002 bytes at most.
+pub lent-few : (t m : List ℕ) → lentForReading t m ≡ true → length t ≤ 4002
+unfolding lengthRight
+lent-few t m e = leb-true (length t) 4002 (and-both (leb 3815 (length t)) (leb (length t) 4002) (lent-length t m e .1) .1)
 
 -- A pair that is lent out of rule gives 1, any other what its cells give.
 pub find-wrong : (s : ℕ) (w : Wanted) (t m : List ℕ) → lentForReading t m ≡ false → find s w t m ≡ refused lentWrong

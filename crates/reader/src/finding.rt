@@ -1,10 +1,14 @@
 // Find: the key's or the data's information of sector S on any track, sound or damaged.
 ghost use mathlib.Core.Path.{_≡_};
+ghost use Prim.Native.Nat.{_+_, _≤_};
 ghost use lib.ListN.{length, take, drop};
+ghost use Rattle.format.specs.Answer.{asAnswer};
+ghost use Rattle.format.specs.Judged.{answerOf};
 ghost use Rattle.format.specs.Lent.{cells};
 ghost use Rattle.format.specs.Candidate.{candidatesFrom};
 ghost use Rattle.format.specs.Find.{carrying, candidatePart, findCells, find};
-ghost use Rattle.format.specs.Blocks.{partAt};
+ghost use Rattle.format.specs.Blocks.{partAt, partIn, blocksAt, wantedPart};
+ghost use Rattle.format.specs.Sector.{openingLength};
 ghost use Rattle.search.specs.Place.{judgedPlace};
 ghost use Rattle.reader.specs.Finding.{asCandidate, standing, asWanted, asPart, judgedPart, partWithin, handedOut};
 use crate::candidate::Candidate;
@@ -58,39 +62,51 @@ fn next_carrying(track: &[u8], marks: &[u8], home: search::Found, from: usize, s
     }
 }
 
+// The answer for the part asked for of a candidate, of which r follows the opening: 10 for the key, 11 for the data.
+fn judge_wanted(x: Candidate, wanted: Wanted, r: &[u8]) -> format::Answer
+    requires { ⌜ x .place ≤ 4002 ⌝ }
+    ensures { λ a. ⌜ asAnswer a ≡ answerOf (wantedPart (asWanted wanted) (blocksAt (x .place + openingLength (x .first)) (now (r .entry)))) ⌝ }
+{
+    let p = x.place as u32;
+    match wanted {
+        Wanted::TheKey => sector::judge_key(x.first, p, r),
+        Wanted::TheData => sector::judge_data(x.first, p, r),
+    }
+}
+
+// The part that the information asked for takes in r, which follows a count's opening from place q on.
+fn part_in(wanted: Wanted, q: usize, r: &[u8]) -> Part
+    requires { ⌜ q ≤ 4010 ⌝ }
+    ensures { λ x. ⌜ asPart x ≡ partIn (asWanted wanted) q (now (r .entry)) ⌝ }
+{
+    let blocks = sector::blocks_in(r);
+    match wanted {
+        Wanted::TheKey => part_at(q + sector::KEY_OFFSET + 6, blocks.key_length),
+        Wanted::TheData => part_at(q + blocks.data_offset + 6, blocks.data_length),
+    }
+}
+
 // The part asked for of a candidate: 9 where its blocks and the least gap do not fit its span, then 10 for the key or 11 for the data.
 fn part_of(track: &[u8], x: Candidate, wanted: Wanted) -> Outcome
+    requires { ⌜ length (now track) ≤ 4002 ⌝ }
     ensures { λ r. ⌜ judgedPart r ≡ candidatePart (asWanted wanted) (asCandidate (now (track .entry)) x) ⌝ }
     ensures { λ r. ⌜ partWithin r (length (now (track .entry))) ⌝ }
 {
     let r = rest_of(track, x);
-    if sector::blocks_fit(x.last, r) {
-        let from = x.place + sector::opening_length(x.first);
-        match wanted {
-            Wanted::TheKey => {
-                let at = from + sector::KEY_OFFSET;
-                if sector::key_right(r) {
-                    Outcome::Found(part_at(at + 6, sector::key_length(r)))
-                } else {
-                    Outcome::Refused(format::key_wrong(at))
-                }
-            }
-            Wanted::TheData => {
-                let at = from + sector::data_offset(r);
-                if sector::data_right(r) {
-                    Outcome::Found(part_at(at + 6, sector::data_length(r)))
-                } else {
-                    Outcome::Refused(format::data_wrong(at))
-                }
-            }
-        }
-    } else {
-        Outcome::Refused(format::span_too_short(x.place))
+    let fit = sector::judge_fit(x.place, x.last, r);
+    if fit.number != 0 {
+        return Outcome::Refused(fit);
     }
+    let a = judge_wanted(x, wanted, r);
+    if a.number != 0 {
+        return Outcome::Refused(a);
+    }
+    Outcome::Found(part_in(wanted, x.place + sector::opening_length(x.first), r))
 }
 
 // The part asked for of the only candidate that carries S: 12 where there is none, 13 with the place of the second where there are more.
 fn only_part(track: &[u8], marks: &[u8], s: u8, wanted: Wanted) -> Outcome
+    requires { ⌜ length (now track) ≤ 4002 ⌝ }
     ensures { λ r. ⌜ judgedPart r ≡ findCells s (asWanted wanted) (cells (now (track .entry)) (now (marks .entry))) ⌝ }
     ensures { λ r. ⌜ partWithin r (length (now (track .entry))) ⌝ }
 {

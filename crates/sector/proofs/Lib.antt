@@ -2,3 +2,5 @@
 pub mod Opening
 pub mod Block
 pub mod Field
+pub mod BlocksJudged
+pub mod Measured

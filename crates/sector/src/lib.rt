@@ -10,12 +10,12 @@ pub mod bytes;
 pub mod count;
 pub mod fields;
 
+pub use blocks::Blocks;
 pub use blocks::KEY_OFFSET;
-pub use blocks::block_end;
-pub use blocks::blocks_fit;
-pub use blocks::data_offset;
-pub use blocks::data_right;
-pub use blocks::key_right;
+pub use blocks::blocks_in;
+pub use blocks::judge_data;
+pub use blocks::judge_fit;
+pub use blocks::judge_key;
 pub use bytes::byte_at;
 pub use bytes::closed_after;
 pub use count::Named;
@@ -64,18 +64,13 @@ pub fn opening_length(first: bool) -> usize
 pub fn judge_blocks(first: bool, p: u32, last: bool, r: &[u8]) -> format::Answer
     ensures { λ a. ⌜ asAnswer a ≡ answerOf (readBlocks first p last (now (r .entry))) ⌝ }
 {
-    let at = p as usize;
-    if blocks_fit(last, r) {
-        if key_right(r) {
-            if data_right(r) {
-                format::done()
-            } else {
-                format::data_wrong(at + opening_length(first) + data_offset(r))
-            }
-        } else {
-            format::key_wrong(at + opening_length(first) + KEY_OFFSET)
-        }
-    } else {
-        format::span_too_short(at)
+    let fit = judge_fit(p as usize, last, r);
+    if fit.number != 0 {
+        return fit;
     }
+    let key = judge_key(first, p, r);
+    if key.number != 0 {
+        return key;
+    }
+    judge_data(first, p, r)
 }

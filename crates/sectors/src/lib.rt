@@ -40,9 +40,10 @@ fn sector_in(q: usize, next: usize, last: bool, r: &[u8]) -> SectorAt
     requires { ⌜ q ≤ 4010 ⌝ }
     ensures { λ s. ⌜ asSectorAt s ≡ sectorFields q next last (now (r .entry)) ⌝ }
 {
-    let key_length = sector::key_length(r);
-    let data_length = sector::data_length(r);
-    let end = q + sector::block_end(r);
+    let blocks = sector::blocks_in(r);
+    let key_length = blocks.key_length;
+    let data_length = blocks.data_length;
+    let end = q + blocks.end;
     let key_place = if key_length == 0 {
         0
     } else {
@@ -54,7 +55,7 @@ fn sector_in(q: usize, next: usize, last: bool, r: &[u8]) -> SectorAt
         key_length,
         data_length,
         key_place,
-        data_place: q + sector::data_offset(r) + PLAIN,
+        data_place: q + blocks.data_offset + PLAIN,
         end,
         next,
         last,

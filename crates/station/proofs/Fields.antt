@@ -19,14 +19,14 @@ use Rattle.format.specs.Sector.{openingLength, judgeCount}
 use Rattle.format.specs.Accept.{Accepted, accept}
 use Rattle.format.specs.Candidate.{Candidate, firstOpensAt, candidateAt, standsAt, candidatesFrom, candidates}
 use Rattle.format.specs.Find.{carrying, only, candidatePart, findCells, find}
-use Rattle.format.specs.Blocks.{Wanted, Part, partAt, wantedPart, blocksAt, judgeFit}
+use Rattle.format.specs.Blocks.{Wanted, Part, partAt, wantedPart, blocksAt, judgeFit, partIn}
 use Rattle.format.specs.Walk.{Visited, visited, nextFrom, step}
 use Rattle.format.specs.PairFind.{Paired, fromFirstCount, judgeFirstCount, judgeFirst, pairAgrees, findOnSecond, findByFlag, pairFind}
 use Rattle.base.proofs.Tests.{cases}
 use Rattle.format.proofs.Cells.Opening.{unmarked-at}
 use Rattle.format.proofs.Track.HomeLocal.{home-window}
 use Rattle.format.proofs.Find.CandidateBytes.{after-front}
-use Rattle.format.proofs.Sector.BlocksJudged.{block-fits, offsetOf, lengthOf, rightOf, wrongAt, wrong-row, partIn, part-judged, fit-good}
+use Rattle.format.proofs.Sector.BlocksJudged.{block-fits, offsetOf, lengthOf, rightOf, wrongAt, wrong-row, part-judged, fit-good, part-in-is}
 use Rattle.station.proofs.Places.{Row, Within, within-then, within-require, cells-few, home-within, count-within, accept-within, fit-within}
 
 -- A candidate that lies within 4,002 cells and has bytes for its fields.
@@ -99,7 +99,7 @@ wanted-inside w x a f =
     let l = a .rest-few (omega arith) in
     let n = wrong-row w (q + offsetOf w r) in
     rw (part-judged w q r)
-    (inside-require (rightOf w r) (wrongAt w (q + offsetOf w r)) (good (partIn w q r)) (n .1, omega (arith, n .2)) (λ _. part-inside (q + offsetOf w r + 6) (lengthOf w r) (omega arith)))
+    (inside-require (rightOf w r) (wrongAt w (q + offsetOf w r)) (good (partIn w q r)) (n .1, omega (arith, n .2)) (λ _. rw (part-in-is w q r) (part-inside (q + offsetOf w r + 6) (lengthOf w r) (omega arith))))
 
 -- The part asked for of the only candidate.
 only-inside : (w : Wanted) (xs : List Candidate) → AllSmall xs

@@ -17,13 +17,13 @@ use Rattle.format.specs.Block.{blocksFit}
 use Rattle.format.specs.Span.{joined, none, spans}
 use Rattle.format.specs.Sector.{Sector, openingLength, settle, judgeCount, readBlocks, judgeSector, readSpan}
 use Rattle.format.specs.Accept.{judgeMarks, readSpans, placedFrom, among, judgeNumbers, spansOf, firstCountEnd, judgeBehind, acceptCells, accept}
-use Rattle.format.specs.Blocks.{theKey, theData, Wanted, blocksAt, wantedPart, judgeFit}
+use Rattle.format.specs.Blocks.{theKey, theData, Wanted, blocksAt, wantedPart, judgeFit, partIn}
 use Rattle.base.proofs.Tests.{cases, and-both}
 use Rattle.format.proofs.Track.HomeLocal.{found-window, home-window}
 use Rattle.format.proofs.Spans.StrayMark.{marks-stray}
 use Rattle.format.proofs.Spans.Cutting.{joined-spans}
 use Rattle.format.proofs.Track.Pairs.{lent-length}
-use Rattle.format.proofs.Sector.BlocksJudged.{block-fits, offsetOf, rightOf, wrongAt, wrong-row, partIn, part-judged, fit-good}
+use Rattle.format.proofs.Sector.BlocksJudged.{block-fits, offsetOf, rightOf, wrongAt, wrong-row, part-judged, fit-good}
 
 -- An answer of the table whose place is 4,002 at most.
 abbrev pub Row : Answer → Type 0

@@ -1,5 +1,5 @@
 -- Taking outcomes apart: what a good outcome says of the tests and steps that it passed.
-use mathlib.Core.Path.{_≡_, refl}
+use mathlib.Core.Path.{_≡_, refl, sym, ap}
 use Prim.Native.Nat.{ℕ}
 use native.Mathlib.Omega.{arith}
 use mathlib.Core.Bool.{Bool, true, false}
@@ -32,3 +32,23 @@ require-holds false a j k e h = false-true e
 pub require-zero : {A : Type 0} (b : Bool) (a : Answer) (j : Judged A) → (a .number ≡ 0 → ⊥) → answerOf (require b a j) .number ≡ 0 → (b ≡ true) × (answerOf j .number ≡ 0)
 require-zero true a j h e = (refl, e)
 require-zero false a j h e = absurd (h e)
+
+-- An outcome whose answer is not 0 is a refusal, and what would follow is not reached.
+pub refusal-stays : {A B : Type 0} (j : Judged A) (k : A → Judged B) → (answerOf j .number ≡ 0 → ⊥) → answerOf (then j k) ≡ answerOf j
+refusal-stays (good x) k h = absurd (h refl)
+refusal-stays (refused a) k h = refl
+
+-- It is the refusal by that answer.
+pub refusal-is : {A : Type 0} (j : Judged A) (a : Answer) → a ≡ answerOf j → (a .number ≡ 0 → ⊥) → j ≡ refused a
+refusal-is (good x) a e n = absurd (n (ap (λ (b : Answer). b .number) e))
+refusal-is (refused b) a e n = ap refused (sym e)
+
+-- Where one judgement after another answers 0, the first does.
+pub then-zero : {A B : Type 0} (j : Judged A) (k : A → Judged B) → answerOf (then j k) .number ≡ 0 → answerOf j .number ≡ 0
+then-zero (good x) k e = refl
+then-zero (refused a) k e = e
+
+-- The answer does not turn on what is made of a good value.
+pub answer-then : {A B : Type 0} (j : Judged A) (f : A → B) → answerOf (then j (λ x. good (f x))) ≡ answerOf j
+answer-then (good x) f = refl
+answer-then (refused a) f = refl

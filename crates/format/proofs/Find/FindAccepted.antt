@@ -18,7 +18,7 @@ use Rattle.format.specs.Sector.{Sector, openingLength, isFirst, settle, 
 use Rattle.format.specs.Accept.{Placed, placedFrom, among, Accepted, spansOf, accept}
 use Rattle.format.specs.Candidate.{Candidate, candidates}
 use Rattle.format.specs.Find.{partOf, carrying, only, candidatePart, findCells, find, contentOf}
-use Rattle.format.specs.Blocks.{Wanted, theKey, theData, Part, judgeFit}
+use Rattle.format.specs.Blocks.{Wanted, theKey, theData, Part, judgeFit, partIn}
 use Rattle.base.proofs.Tests.{cases, false-true}
 use Rattle.base.specs.Lists.{Member}
 use Rattle.format.proofs.Sector.ReadSector.{ReadAs, behindOpening, read-inv}
@@ -27,7 +27,7 @@ use Rattle.format.proofs.Track.Pairs.{accepted-pair}
 use Rattle.format.proofs.Track.Sectors.{Distinct, numbersOf, numbers-distinct}
 use Rattle.format.proofs.Find.SpanCandidates.{candidatesOf, none-placed, read-first}
 use Rattle.format.proofs.Find.AcceptedCandidates.{candidates-accepted}
-use Rattle.format.proofs.Sector.BlocksJudged.{infoOf, rightOf, partIn, part-right}
+use Rattle.format.proofs.Sector.BlocksJudged.{infoOf, rightOf, part-right}
 use Rattle.format.proofs.Find.FindSound.{find-hands-out}
 use Rattle.format.proofs.Find.FindParts.{behindCount}
 

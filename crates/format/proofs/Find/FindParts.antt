@@ -19,7 +19,7 @@ use Rattle.format.specs.Blocks.{Wanted, theKey, theData, Part, partAt, w
 use Rattle.format.proofs.Base.Judged.{good-inj, refused-good}
 use Rattle.base.proofs.Tests.{cases, and-both}
 use Rattle.base.specs.Lists.{Member}
-use Rattle.format.proofs.Sector.BlocksJudged.{offsetOf, lengthOf, infoOf, part-good, right-block}
+use Rattle.format.proofs.Sector.BlocksJudged.{offsetOf, lengthOf, infoOf, part-good, right-block, part-in-is}
 
 -- Where the bytes of a count begin, behind its opening.
 abbrev pub behindCount : Candidate → ℕ
@@ -48,9 +48,10 @@ unfolding partAt
 found-right w x part e =
     let r : List ℕ = x .rest in
     let a = part-good w (behindCount x) r part e in
+    let is = sym (part-in-is w (behindCount x) r) ∙ a .1 in
     record {
-      size-is = sym (ap (λ (p : Part). p .size) (a .1));
-      start-is = λ z. sym (ap (λ (p : Part). p .start) (a .1)) ∙ rw z;
+      size-is = sym (ap (λ (p : Part). p .size) is);
+      start-is = λ z. sym (ap (λ (p : Part). p .start) is) ∙ rw z;
       right = right-block w r (a .0);
     }
 

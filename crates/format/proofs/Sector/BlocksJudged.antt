@@ -7,10 +7,10 @@ use mathlib.Core.List.{List}
 use lib.ListN.{length, drop}
 use lib.Dec.{eqb}
 use Rattle.format.specs.Answer.{Answer, keyWrong, dataWrong, spanTooShort}
-use Rattle.format.specs.Judged.{good, require, answerOf}
+use Rattle.format.specs.Judged.{good, refused, require, answerOf}
 use Rattle.format.specs.Count.{keyLength, dataLength}
 use Rattle.format.specs.Block.{keyOffset, dataOffset, blocksFit, blockRight, keyRight, dataRight, keyInfo, dataInfo}
-use Rattle.format.specs.Blocks.{Wanted, theKey, theData, Part, partAt, blocksAt, wantedPart, judgeFit}
+use Rattle.format.specs.Blocks.{Wanted, theKey, theData, Part, partAt, partIn, blocksAt, wantedPart, judgeFit}
 use Rattle.format.proofs.Base.Judged.{good-inj, require-good, require-zero}
 use Rattle.format.proofs.Sector.Sizes.{gap-least}
 use Rattle.format.proofs.Sector.BlockEnd.{key-in-offset, data-in-end, end-in-span}
@@ -69,30 +69,38 @@ fit-zero p last r e = rw (require-zero (blocksFit last r) (spanTooShort p) (good
 -- The block asked for in r, which follows a count's opening from place q on.
 module _ (w : Wanted) (q : ℕ) (r : List ℕ) where
   -- The part that its information takes.
-  abbrev pub partIn : Part
-  partIn = partAt (q + offsetOf w r + 6) (lengthOf w r)
+  pub part-in-is : partIn w q r ≡ partAt (q + offsetOf w r + 6) (lengthOf w r)
+  part-in-is = go w
+    where
+      go : (v : Wanted) → partIn v q r ≡ partAt (q + offsetOf v r + 6) (lengthOf v r)
+      go theKey = refl
+      go theData = refl
 
   -- It is judged by its test.
-  pub part-judged : wantedPart w (blocksAt q r) ≡ require (rightOf w r) (wrongAt w (q + offsetOf w r)) (good partIn)
+  pub part-judged : wantedPart w (blocksAt q r) ≡ require (rightOf w r) (wrongAt w (q + offsetOf w r)) (good (partIn w q r))
   unfolding blocksAt
   part-judged = go w
     where
-      go : (v : Wanted) → wantedPart v (blocksAt q r) ≡ require (rightOf v r) (wrongAt v (q + offsetOf v r)) (good (partAt (q + offsetOf v r + 6) (lengthOf v r)))
+      go : (v : Wanted) → wantedPart v (blocksAt q r) ≡ require (rightOf v r) (wrongAt v (q + offsetOf v r)) (good (partIn v q r))
       go theKey = refl
       go theData = refl
 
   -- Where the test holds it is found.
-  pub part-right : rightOf w r ≡ true → wantedPart w (blocksAt q r) ≡ good partIn
+  pub part-right : rightOf w r ≡ true → wantedPart w (blocksAt q r) ≡ good (partIn w q r)
   part-right e = part-judged ∙ rw e
 
+  -- Where it fails it is refused.
+  pub part-wrong : rightOf w r ≡ false → wantedPart w (blocksAt q r) ≡ refused (wrongAt w (q + offsetOf w r))
+  part-wrong e = part-judged ∙ rw e
+
   -- Where it is found the test holds.
-  pub part-good : (part : Part) → wantedPart w (blocksAt q r) ≡ good part → (rightOf w r ≡ true) × (partIn ≡ part)
+  pub part-good : (part : Part) → wantedPart w (blocksAt q r) ≡ good part → (rightOf w r ≡ true) × (partIn w q r ≡ part)
   part-good part e =
-      let a = require-good (rightOf w r) (wrongAt w (q + offsetOf w r)) (good partIn) part (sym part-judged ∙ e) in
-      (a .0, good-inj partIn part (a .1))
+      let a = require-good (rightOf w r) (wrongAt w (q + offsetOf w r)) (good (partIn w q r)) part (sym part-judged ∙ e) in
+      (a .0, good-inj (partIn w q r) part (a .1))
 
   -- It is found where the answer is 0.
-  pub part-zero : answerOf (wantedPart w (blocksAt q r)) .number ≡ 0 → wantedPart w (blocksAt q r) ≡ good partIn
+  pub part-zero : answerOf (wantedPart w (blocksAt q r)) .number ≡ 0 → wantedPart w (blocksAt q r) ≡ good (partIn w q r)
   part-zero e =
       let n = ap (λ j. answerOf j .number) part-judged in
-      part-right (require-zero (rightOf w r) (wrongAt w (q + offsetOf w r)) (good partIn) (λ z. omega (arith, wrong-row w (q + offsetOf w r))) (sym n ∙ e) .0)
+      part-right (require-zero (rightOf w r) (wrongAt w (q + offsetOf w r)) (good (partIn w q r)) (λ z. omega (arith, wrong-row w (q + offsetOf w r))) (sym n ∙ e) .0)

@@ -2,7 +2,7 @@
 use mathlib.Core.Path.{sym, ap, _∙_}
 use Rattle.format.specs.Answer.{Answer}
 use Rattle.format.specs.Judged.{refused}
-use Rattle.reader.proofs.FindPart.{find-wrong, find-cells}
+use Rattle.reader.proofs.FindPart.{lent-few, find-wrong, find-cells}
 use borrow.Author.Needs.{needs}
 use Rattle.reader.proofs.finding.find_part.Statement.{statement}
 use Rattle.reader.proofs.finding.find_part.Tie as tie
@@ -11,7 +11,7 @@ lent-for-reading-requires : tie.Need-lent-for-reading-requires
 lent-for-reading-requires c κs = search needs
 
 only-part-requires : tie.Need-only-part-requires
-only-part-requires c κs = search needs
+only-part-requires c κs = lent-few _ _ (sym (c .before .lent-for-reading .ensures) ∙ c .if1 .taken)
 
 lent-wrong-requires : tie.Need-lent-wrong-requires
 lent-wrong-requires c κs = search needs

@@ -1,0 +1,63 @@
+-- `judge_data` meets its contract: the test picks the answer, whose place is where the data block opens.
+use mathlib.Core.Path.{sym, ap, ap₂, _∙_}
+use Prim.Native.Nat.{ℕ, _+_}
+use native.Mathlib.Omega.{arith}
+use Rattle.format.specs.Answer.{dataWrong}
+use Rattle.format.specs.Judged.{answerOf}
+use Rattle.format.specs.Blocks.{theData}
+use Rattle.format.specs.Sector.{openingLength}
+use Rattle.format.proofs.Sector.BlockEnd.{offset-lt}
+use Rattle.format.proofs.Sector.BlocksJudged.{part-right, part-wrong}
+use Rattle.sector.proofs.Block.{opening-le}
+use borrow.Author.Needs.{needs}
+use Rattle.sector.proofs.blocks.judge_data.Statement.{statement}
+use Rattle.sector.proofs.blocks.judge_data.Tie as tie
+
+data-right-requires : tie.Need-data-right-requires
+data-right-requires c κs = search needs
+
+done-requires : tie.Need-done-requires
+done-requires c κs = search needs
+
+opening-length-requires : tie.Need-opening-length-requires
+opening-length-requires c κs = search needs
+
+add-data-wrong : tie.Need-add-data-wrong
+add-data-wrong c = omega (arith, opening-le (c .before .before .before .before .args .first))
+
+data-offset-requires : tie.Need-data-offset-requires
+data-offset-requires c κs = search needs
+
+add-data-wrong-2 : tie.Need-add-data-wrong-2
+add-data-wrong-2 c =
+    let s = c .before .before .before .before in
+    omega (arith, opening-le (s .before .args .first), offset-lt (s .before .args .r .now) (omega (arith, s .shared-slice-known .given 6)))
+
+data-wrong-requires : tie.Need-data-wrong-requires
+data-wrong-requires c κs = search needs
+
+returns : tie.Need-returns
+returns c =
+    let a = c .before .before .before .before .args in
+    c .done .ensures ∙ sym (ap answerOf (part-right theData (a .p + openingLength (a .first)) (a .r .now) (sym (c .before .before .data-right .ensures) ∙ c .before .if1 .taken)))
+
+returns-2 : tie.Need-returns-2
+returns-2 c =
+    let a = c .before .before .before .before .before .before .args in
+    c .data-wrong .ensures
+    ∙ ap₂ (λ (x y : ℕ). dataWrong (a .p + x + y)) (c .before .before .opening-length .ensures) (c .before .data-offset .ensures)
+    ∙ sym (ap answerOf (part-wrong theData (a .p + openingLength (a .first)) (a .r .now) (sym (c .before .before .before .before .data-right .ensures) ∙ c .before .before .before .if1 .left)))
+
+pub judge-data-spec : {M : Type 1} → statement M
+judge-data-spec =
+    tie.close
+    (tie.spec
+    data-right-requires
+    done-requires
+    opening-length-requires
+    add-data-wrong
+    data-offset-requires
+    add-data-wrong-2
+    data-wrong-requires
+    returns
+    returns-2)
