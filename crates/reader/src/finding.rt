@@ -15,6 +15,7 @@ use crate::candidate::Candidate;
 use crate::candidate::Standing;
 use crate::candidate::next_candidate;
 use crate::candidate::rest_of;
+use format::layout::PLAIN;
 
 // The part of a sector that is asked for.
 pub enum Wanted {
@@ -81,8 +82,8 @@ fn part_in(wanted: Wanted, q: usize, r: &[u8]) -> Part
 {
     let blocks = sector::blocks_in(r);
     match wanted {
-        Wanted::TheKey => part_at(q + sector::KEY_OFFSET + 6, blocks.key_length),
-        Wanted::TheData => part_at(q + blocks.data_offset + 6, blocks.data_length),
+        Wanted::TheKey => part_at(q + sector::KEY_OFFSET + PLAIN, blocks.key_length),
+        Wanted::TheData => part_at(q + blocks.data_offset + PLAIN, blocks.data_length),
     }
 }
 

@@ -13,9 +13,14 @@ use crate::bytes::starts_plain;
 use crate::count::data_length;
 use crate::count::key_length;
 use crate::opening_length;
+use format::layout::BLOCK_FRAME;
+use format::layout::COUNT_TO_BLOCK;
+use format::layout::EMPTY_BLOCK;
+use format::layout::KEY_FRAME;
+use format::layout::PLAIN;
 
 // The key's opening comes 11 bytes after the count's 12.
-pub const KEY_OFFSET: usize = 23;
+pub const KEY_OFFSET: usize = COUNT_TO_BLOCK;
 
 // What follows a count's opening, measured: KL, DL, and the offsets at which the data block opens and ends.
 pub struct Blocks {
@@ -33,7 +38,7 @@ fn data_offset(r: &[u8]) -> usize
     if n == 0 {
         KEY_OFFSET
     } else {
-        KEY_OFFSET + n + 20
+        KEY_OFFSET + n + KEY_FRAME
     }
 }
 
@@ -43,7 +48,7 @@ fn block_end(r: &[u8]) -> usize
 {
     let at = data_offset(r);
     let n = data_length(r);
-    if n == 0 { at + 7 } else { at + n + 9 }
+    if n == 0 { at + EMPTY_BLOCK } else { at + n + BLOCK_FRAME }
 }
 
 // The measures of what follows a count's opening.
@@ -77,7 +82,7 @@ fn block_right(n: usize, c: &[u8]) -> bool
     ensures { λ b. ⌜ b ≡ blockRight n (now (c .entry)) ⌝ }
 {
     if starts_plain(c) {
-        closed_after(&c[6..], n)
+        closed_after(&c[PLAIN..], n)
     } else {
         false
     }
