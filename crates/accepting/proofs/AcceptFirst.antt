@@ -13,7 +13,7 @@ use Rattle.format.specs.Opening.{startsWith, plainOpening}
 use Rattle.format.specs.Address.{Address, addressIn}
 use Rattle.format.specs.Home.{Home}
 use Rattle.format.specs.Count.{unsettled, settled}
-use Rattle.format.specs.Span.{runsToIndex, spanLength, afterOpening, beforeOpening, laterSpans, spans, joined, none, cleanSpan, cleanSpans}
+use Rattle.format.specs.Span.{runsToIndex, spanLength, spanRest, beforeOpening, laterSpans, spans, joined, none, cleanSpan, cleanSpans}
 use Rattle.format.specs.Sector.{sectorIn, settle, judgeSector, readSpan}
 use Rattle.format.specs.Accept.{readSpans}
 use Rattle.base.proofs.Tests.{and-both}
@@ -24,9 +24,9 @@ use Rattle.format.proofs.Spans.Cutting.{before-joined, before-whole, shape-span
 use Rattle.format.proofs.Spans.Marks.{marks-clean}
 use Rattle.format.proofs.Spans.SpanAgrees.{span-agrees}
 use Rattle.format.proofs.Track.Pairs.{length-cells, drop-cells}
-use Rattle.format.proofs.Find.CandidateBytes.{after-bytes}
+use Rattle.format.proofs.Find.CandidateBytes.{span-rest-bytes}
 use Rattle.sector.proofs.Opening.{plain-length}
-use Rattle.accepting.specs.Accepting.{Rest, NoStrayMark}
+use Rattle.accepting.specs.Accepting.{LaterSpans, NoStrayMark}
 use Rattle.accepting.proofs.AcceptAnswers.{sector-zero}
 use Rattle.format.proofs.Base.Judged.{refusal-stays, answer-then}
 use Rattle.accepting.proofs.AcceptSpans.{before-later}
@@ -50,8 +50,8 @@ pub record First (p n : ℕ) (t m : List ℕ) : Type 0 where
   pub fits : p + n ≤ length t
   pub bytes : take (p + n - (p + 6)) (drop (p + 6) t) ≡ drop 6 (beforeOpening (drop p (cells t m)))
   pub last : runsToIndex 6 (drop p (cells t m)) ≡ none (laterSpans (drop p (cells t m)))
-  pub rest-cut : laterSpans (cells (drop (p + n) t) (drop (p + n) m)) ≡ laterSpans (drop p (cells t m))
-  pub rest : Rest (p + n) (drop (p + n) t) (drop (p + n) m)
+  pub later-cut : laterSpans (cells (drop (p + n) t) (drop (p + n) m)) ≡ laterSpans (drop p (cells t m))
+  pub rest : LaterSpans (p + n) (drop (p + n) t) (drop (p + n) m)
 
 -- Sector 0 opens, and its span is that by the next mark.
 pub first-front : (p : ℕ) (t m : List ℕ) (n : ℕ) → NoStrayMark p t m → startsWith plainOpening (drop p (cells t m)) ≡ true → n ≡ spanLength 6 (drop p (cells t m)) → First p n t m
@@ -77,9 +77,9 @@ first-front p t m n u o e =
       opening = omega arith;
       reaches = reach gs whole size (c .2);
       fits = fits;
-      bytes = sym (after-bytes 6 p (p + n - (p + 6)) t m k) ∙ ap (afterOpening 6) (sym whole) ∙ a .1;
+      bytes = sym (span-rest-bytes 6 p (p + n - (p + 6)) t m k) ∙ ap (spanRest 6) (sym whole) ∙ a .1;
       last = ap (runsToIndex 6) (sym whole) ∙ a .2;
-      rest-cut = cut;
+      later-cut = cut;
       rest = record {
         lengths = omega (arith, length-drop (p + n) t, length-drop (p + n) m, u .lengths);
         within = omega (arith, length-drop (p + n) t, u .within);
@@ -96,7 +96,7 @@ first-front p t m n u o e =
     reach (y ∷ gs) w k f l = omega arith
 
 -- What is left behind sector 0, as two slices.
-pub first-rest : (p n : ℕ) (t m : List ℕ) → First p n t m → Rest (p + n) (take (length t - (p + n)) (drop (p + n) t)) (take (length m - (p + n)) (drop (p + n) m))
+pub first-rest : (p n : ℕ) (t m : List ℕ) → First p n t m → LaterSpans (p + n) (take (length t - (p + n)) (drop (p + n) t)) (take (length m - (p + n)) (drop (p + n) m))
 first-rest p n t m f = rw (part-all (p + n) t, part-all (p + n) m) (f .rest)
 
 -- Sector 0's count does not open.
@@ -128,5 +128,5 @@ module _ (h : Home) (p n : ℕ) (t m : List ℕ) (f : First p n t m) (last : Boo
       let d : List ℕ = drop p (cells t m) in
       let r : List ℕ = drop 6 (beforeOpening d) in
       let y = sector-zero h 0 unsettled p (none (laterSpans d)) r (ap (λ (a : Answer). a .number) (sym by-span) ∙ z) in
-      rw (part-all (p + n) t, part-all (p + n) m, f .rest-cut, f .opened, y, k, f .bytes, ← f .size)
+      rw (part-all (p + n) t, part-all (p + n) m, f .later-cut, f .opened, y, k, f .bytes, ← f .size)
       (sym (answer-then (readSpans h 1 (settled (addressIn r)) (p + length (beforeOpening d)) (laterSpans d)) _))

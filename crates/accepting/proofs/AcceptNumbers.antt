@@ -13,17 +13,17 @@ use Rattle.format.specs.Judged.{Judged, good, refused, require}
 use Rattle.format.specs.Lent.{cells, unmarked}
 use Rattle.format.specs.Opening.{startsWith, plainOpening}
 use Rattle.format.specs.Count.{countNumber}
-use Rattle.format.specs.Span.{spanLength, afterOpening, beforeOpening, laterSpans, spans, cleanSpan, cleanSpans}
+use Rattle.format.specs.Span.{spanLength, spanRest, beforeOpening, laterSpans, spans, cleanSpan, cleanSpans}
 use Rattle.format.specs.Sector.{openingLength}
 use Rattle.format.specs.Accept.{among}
 use Rattle.base.proofs.Tests.{cases, and-both}
 use Rattle.format.proofs.Cells.Opening.{unmarked-at, unmarked-drop}
 use Rattle.format.proofs.Spans.Marks.{marks-clean}
 use Rattle.format.proofs.Track.Pairs.{drop-cells}
-use Rattle.format.proofs.Find.CandidateBytes.{after-bytes}
+use Rattle.format.proofs.Find.CandidateBytes.{span-rest-bytes}
 use Rattle.sectors.specs.SectorAt.{SectorAt, sectorFields, lastFirstCount, opensFirst, restAt, sectorAt}
-use Rattle.sectors.proofs.Rest.{opens-low, opens-high}
-use Rattle.accepting.specs.Accepting.{Rest, NoStrayMark, numbersIn}
+use Rattle.sectors.proofs.LaterSpans.{opens-low, opens-high}
+use Rattle.accepting.specs.Accepting.{LaterSpans, NoStrayMark, numbersIn}
 use Rattle.accepting.proofs.AcceptSpans.{Front, front, no-span}
 use Rattle.accepting.proofs.AcceptFirst.{First, first-front}
 
@@ -72,7 +72,7 @@ unfolding flagged
 flagged-none f p t m l = rw (no-span (drop p t) (drop p m) (omega (arith, length-drop p t)))
 
 -- The number of the sector whose count opens at place p.
-number-at : (first : Bool) (p : ℕ) (c : List ℕ) → p ≤ 4002 → opensFirst p ≡ first → sectorAt p c .number ≡ countNumber (afterOpening (openingLength first) (drop p c))
+number-at : (first : Bool) (p : ℕ) (c : List ℕ) → p ≤ 4002 → opensFirst p ≡ first → sectorAt p c .number ≡ countNumber (spanRest (openingLength first) (drop p c))
 unfolding sectorAt sectorFields restAt
 number-at first p c l f = rw (le-leb p 4002 l, f)
 
@@ -89,7 +89,7 @@ pub record Passed (t m : List ℕ) (q number next : ℕ) : Type 0 where
   pub within : next ≤ length t
 
 -- The later sector x at place q, where what is left starts with it.
-pub passed : (t m : List ℕ) (q : ℕ) (x : SectorAt) → x ≡ sectorAt q (cells t m) → lastFirstCount < q → q < length t → length t ≤ 4002 → Rest q (drop q t) (drop q m)
+pub passed : (t m : List ℕ) (q : ℕ) (x : SectorAt) → x ≡ sectorAt q (cells t m) → lastFirstCount < q → q < length t → length t ≤ 4002 → LaterSpans q (drop q t) (drop q m)
     → Passed t m q (x .number) (x .next)
 passed t m q x e behind l w r =
     let c : List ℕ = cells (drop q t) (drop q m) in
@@ -98,18 +98,18 @@ passed t m q x e behind l w r =
     ap (λ (z : SectorAt). z .next) e ∙ next-at false q (cells t m) (omega arith) (opens-high q behind) ∙ ap (λ (z : List ℕ). q + spanLength 8 z) d in
     let k : x .next - q ≡ spanLength 8 c = omega arith in
     let f : Front q (x .next - q) (drop q t) (drop q m) = front q (drop q t) (drop q m) (x .next - q) r k (omega (arith, length-drop q t)) in
-    let b : afterOpening 8 c ≡ drop 8 (f .span) =
-    after-bytes 8 0 (x .next - q - 8) (drop q t) (drop q m) (ap (λ (j : ℕ). j - 8) k) ∙ f .bytes in
+    let b : spanRest 8 c ≡ drop 8 (f .span) =
+    span-rest-bytes 8 0 (x .next - q - 8) (drop q t) (drop q m) (ap (λ (j : ℕ). j - 8) k) ∙ f .bytes in
     record {
       front-is = f;
-      number-is = ap (λ (z : SectorAt). z .number) e ∙ number-at false q (cells t m) (omega arith) (opens-high q behind) ∙ ap (λ (z : List ℕ). countNumber z) (ap (afterOpening 8) d ∙ b);
+      number-is = ap (λ (z : SectorAt). z .number) e ∙ number-at false q (cells t m) (omega arith) (opens-high q behind) ∙ ap (λ (z : List ℕ). countNumber z) (ap (spanRest 8) d ∙ b);
       further = omega (arith, f .opening);
       within = omega (arith, f .fits, length-drop q t);
     }
 
 module _ (t m : List ℕ) (q number next : ℕ) (s : Passed t m q number next) where
   -- What is left behind it.
-  pub passed-rest : Rest next (drop next t) (drop next m)
+  pub passed-rest : LaterSpans next (drop next t) (drop next m)
   passed-rest =
       let k : q + (next - q) ≡ next = omega (arith, s .further) in
       rw (drop-drop (next - q) q t, drop-drop (next - q) q m, k) at (s .front-is .rest)
@@ -126,7 +126,7 @@ module _ (t m : List ℕ) (q number next : ℕ) (s : Passed t m q number next) w
   passed-next f h =
       let k : q + (next - q) ≡ next = omega (arith, s .further) in
       let d : laterSpans (cells (drop next t) (drop next m)) ≡ s .front-is .later =
-      rw (drop-drop (next - q) q t, drop-drop (next - q) q m, k) at (s .front-is .rest-cut) in
+      rw (drop-drop (next - q) q t, drop-drop (next - q) q m, k) at (s .front-is .later-cut) in
       let j : q + length (s .front-is .span) ≡ next = omega (arith, s .further, s .front-is .size) in
       rw (s .front-is .cut, ← s .number-is, eq-eqb (getD f number 0) 0 h, d, j)
 
@@ -145,7 +145,7 @@ module _ (t m : List ℕ) (p : ℕ) (u : NoStrayMark p t m) (o : startsWith plai
       let k : x .next - p ≡ spanLength 6 c = omega (arith, zero-next) in
       let j : p + (x .next - p) - (p + 6) ≡ spanLength 6 c - 6 = omega arith in
       ap (λ (z : SectorAt). z .number) e ∙ number-at true p (cells t m) (omega (arith, u .reach, u .within)) (opens-low p (window .1))
-      ∙ ap (λ (z : List ℕ). countNumber z) (after-bytes 6 p (p + (x .next - p) - (p + 6)) t m j ∙ zero-front .bytes)
+      ∙ ap (λ (z : List ℕ). countNumber z) (span-rest-bytes 6 p (p + (x .next - p) - (p + 6)) t m j ∙ zero-front .bytes)
 
   -- Where the next sector starts, or the track ends.
   pub zero-within : x .next ≤ length t
@@ -156,7 +156,7 @@ module _ (t m : List ℕ) (p : ℕ) (u : NoStrayMark p t m) (o : startsWith plai
   zero-behind h = let k : 18 ≤ x .next - p = zero-front .reaches (omega (arith, zero-next)) in omega (arith, window .0)
 
   -- What is left behind sector 0.
-  pub zero-rest : Rest (x .next) (drop (x .next) t) (drop (x .next) m)
+  pub zero-rest : LaterSpans (x .next) (drop (x .next) t) (drop (x .next) m)
   zero-rest =
       let k : p + (x .next - p) ≡ x .next = omega (arith, zero-next) in
       rw k at (zero-front .rest)
@@ -172,6 +172,6 @@ module _ (t m : List ℕ) (p : ℕ) (u : NoStrayMark p t m) (o : startsWith plai
       let n : ℕ = countNumber (drop 6 (beforeOpening d)) in
       let b : n < 256 = unmarked-at (drop 6 (beforeOpening d)) 5 (unmarked-drop 6 (beforeOpening d) (v .0)) in
       let k : p + (x .next - p) ≡ x .next = omega (arith, zero-next) in
-      let z : laterSpans (cells (drop (x .next) t) (drop (x .next) m)) ≡ laterSpans d = rw k at (zero-front .rest-cut) in
+      let z : laterSpans (cells (drop (x .next) t) (drop (x .next) m)) ≡ laterSpans d = rw k at (zero-front .later-cut) in
       let j : p + length (beforeOpening d) ≡ x .next = omega (arith, zero-next, zero-front .size) in
       rw (z, ← j, zero-number) (sym (flagged-numbers (set (replicate 256 0) n 1) (n ∷ []) 0 (p + length (beforeOpening d)) (laterSpans d) (v .1) (agree-next (replicate 256 0) [] n b agree-none)))

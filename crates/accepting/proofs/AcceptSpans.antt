@@ -14,7 +14,7 @@ use Rattle.format.specs.Count.{Settled, settled}
 use Rattle.format.specs.Sector.{judgeSector}
 use Rattle.format.specs.Accept.{readSpans}
 use Rattle.format.specs.Lent.{cells}
-use Rattle.format.specs.Span.{runsToIndex, spanLength, afterOpening, beforeOpening, laterSpans, joined, none, cleanSpan, cleanSpans}
+use Rattle.format.specs.Span.{runsToIndex, spanLength, spanRest, beforeOpening, laterSpans, joined, none, cleanSpan, cleanSpans}
 use Rattle.base.proofs.Tests.{and-both}
 use Rattle.base.proofs.Lists.{none-long, part-all}
 use Rattle.format.proofs.Spans.Shape.{Shape}
@@ -22,8 +22,8 @@ use Rattle.format.proofs.Cells.Opening.{length-opens}
 use Rattle.format.proofs.Spans.Cutting.{before-joined, shape-later, later-joined}
 use Rattle.format.proofs.Spans.SpanAgrees.{span-agrees}
 use Rattle.format.proofs.Track.Pairs.{length-cells, drop-cells}
-use Rattle.format.proofs.Find.CandidateBytes.{after-bytes}
-use Rattle.accepting.specs.Accepting.{Rest}
+use Rattle.format.proofs.Find.CandidateBytes.{span-rest-bytes}
+use Rattle.accepting.specs.Accepting.{LaterSpans}
 use Rattle.accepting.proofs.AcceptAnswers.{spans-refused, spans-good}
 
 -- In a later position a span is clean as in any other.
@@ -42,8 +42,8 @@ pub record Front (p n : ℕ) (t m : List ℕ) : Type 0 where
   pub fits : n ≤ length t
   pub bytes : take (n - 8) (drop 8 t) ≡ drop 8 span
   pub last : runsToIndex 8 (cells t m) ≡ none later
-  pub rest-cut : laterSpans (cells (drop n t) (drop n m)) ≡ later
-  pub rest : Rest (p + n) (drop n t) (drop n m)
+  pub later-cut : laterSpans (cells (drop n t) (drop n m)) ≡ later
+  pub rest : LaterSpans (p + n) (drop n t) (drop n m)
 
 -- Nothing stands before later spans that are joined.
 pub before-later : (i : ℕ) (gs : List (List ℕ)) → Shape (suc i) gs → beforeOpening (joined gs) ≡ []
@@ -56,7 +56,7 @@ before-later i gs s = none-long (beforeOpening d) (omega (arith, ap length whole
     whole = ap (λ (ks : List (List ℕ)). beforeOpening d ++ joined ks) (sym (later-joined i gs s)) ∙ before-joined d
 
 -- What is left of a track, if anything, starts with a span.
-module _ (p : ℕ) (t m : List ℕ) (n : ℕ) (r : Rest p t m) (e : n ≡ spanLength 8 (cells t m)) where
+module _ (p : ℕ) (t m : List ℕ) (n : ℕ) (r : LaterSpans p t m) (e : n ≡ spanLength 8 (cells t m)) where
   first-span : (g : List ℕ) (gs : List (List ℕ)) → laterSpans (cells t m) ≡ g ∷ gs → Front p n t m
   unfolding cleanSpans
   first-span g gs z =
@@ -78,9 +78,9 @@ module _ (p : ℕ) (t m : List ℕ) (n : ℕ) (r : Rest p t m) (e : n ≡ spanLe
         size = size;
         opening = omega arith;
         fits = fits;
-        bytes = sym (after-bytes 8 0 (n - 8) t m (ap (λ (k : ℕ). k - 8) e)) ∙ ap (afterOpening 8) (sym whole) ∙ a .1;
+        bytes = sym (span-rest-bytes 8 0 (n - 8) t m (ap (λ (k : ℕ). k - 8) e)) ∙ ap (spanRest 8) (sym whole) ∙ a .1;
         last = ap (runsToIndex 8) (sym whole) ∙ a .2;
-        rest-cut = cut;
+        later-cut = cut;
         rest = record {
           lengths = omega (arith, length-drop n t, length-drop n m, r .lengths);
           within = omega (arith, length-drop n t, r .within);
@@ -105,12 +105,12 @@ no-span [] m e = refl
 no-span (b ∷ t) m e = absurd (omega arith)
 
 -- Nothing is left to read.
-pub rest-none : (h : Home) (i : ℕ) (x : Settled) (p : ℕ) (t m : List ℕ) → length t ≡ 0 → answerOf (readSpans h i x p (laterSpans (cells t m))) ≡ done
+pub later-none : (h : Home) (i : ℕ) (x : Settled) (p : ℕ) (t m : List ℕ) → length t ≡ 0 → answerOf (readSpans h i x p (laterSpans (cells t m))) ≡ done
 unfolding readSpans
-rest-none h i x p t m e = rw (no-span t m e)
+later-none h i x p t m e = rw (no-span t m e)
 
 -- What is left behind the first span of n cells, as two slices.
-pub rest-next : (p n : ℕ) (t m : List ℕ) → Front p n t m → Rest (p + n) (take (length t - n) (drop n t)) (take (length m - n) (drop n m))
+pub rest-next : (p n : ℕ) (t m : List ℕ) → Front p n t m → LaterSpans (p + n) (take (length t - n) (drop n t)) (take (length m - n) (drop n m))
 rest-next p n t m f = rw (part-all n t, part-all n m) (f .rest)
 
 -- The first span of what is left, in a later position, by the answer b that its bytes give.
@@ -128,4 +128,4 @@ module _ (h : Home) (i : ℕ) (a : Address) (p n : ℕ) (t m : List ℕ) (f : Fr
       → answerOf (readSpans h (suc (suc i)) (settled a) (p + n) (laterSpans (cells (take (length t - n) (drop n t)) (take (length m - n) (drop n m)))))
       ≡ answerOf (readSpans h (suc i) (settled a) p (laterSpans (cells t m)))
   front-good z =
-      rw (part-all n t, part-all n m, f .rest-cut, f .cut, ← f .size) (spans-good h i a p (f .span) (f .later) b by-span z)
+      rw (part-all n t, part-all n m, f .later-cut, f .cut, ← f .size) (spans-good h i a p (f .span) (f .later) b by-span z)

@@ -35,7 +35,7 @@ homeInWindow (Right h) = (homeFirst ≤ h .place) × (h .place ≤ homeLast)
 homeInWindow (Refused a) = Unit {0}
 
 -- What is left of a track from place p on: nothing, or it starts with a whole opening; and no mark of it is stray.
-pub record Rest (p : ℕ) (t m : List ℕ) : Type 0 where
+pub record LaterSpans (p : ℕ) (t m : List ℕ) : Type 0 where
   pub lengths : length m ≡ length t
   pub within : p + length t ≤ 4002
   pub opened : beforeOpening (cells t m) ≡ []

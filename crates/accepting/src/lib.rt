@@ -14,7 +14,7 @@ ghost use Rattle.format.specs.Sector.{judgeSector};
 ghost use Rattle.format.specs.Accept.{readSpans, judgeBehind, accept};
 ghost use Rattle.sector.specs.As.{asAddress, asHome, asSettled};
 ghost use Rattle.sectors.specs.SectorAt.{lastFirstCount};
-ghost use Rattle.accepting.specs.Accepting.{Rest, NoStrayMark, numbersIn, judgedTrack, trackInWindow};
+ghost use Rattle.accepting.specs.Accepting.{LaterSpans, NoStrayMark, numbersIn, judgedTrack, trackInWindow};
 use format::layout::FIRST_COUNT;
 use format::layout::HOME_TO_COUNT;
 use format::layout::MARKED;
@@ -43,7 +43,7 @@ fn judge_sector(h: Home, i: usize, x: Named, p: usize, last: bool, r: &[u8]) -> 
 
 // The answer for the sectors from the odd one at the front of what is left on: its B8 is 1.
 fn judge_odd(track: &[u8], marks: &[u8], p: usize, h: Home, named: Address) -> format::Answer
-    requires { ⌜ Rest p (now track) (now marks) ⌝ }
+    requires { ⌜ LaterSpans p (now track) (now marks) ⌝ }
     ensures { λ a. ⌜ asAnswer a ≡ answerOf (readSpans (asHome h) 1 (settled (asAddress named)) p (laterSpans (cells (now (track .entry)) (now (marks .entry))))) ⌝ }
 {
     if track.len() == 0 {
@@ -60,7 +60,7 @@ fn judge_odd(track: &[u8], marks: &[u8], p: usize, h: Home, named: Address) -> f
 
 // The answer for the sectors from the even one at the front of what is left on: its B8 is 0.
 fn judge_even(track: &[u8], marks: &[u8], p: usize, h: Home, named: Address) -> format::Answer
-    requires { ⌜ Rest p (now track) (now marks) ⌝ }
+    requires { ⌜ LaterSpans p (now track) (now marks) ⌝ }
     ensures { λ a. ⌜ asAnswer a ≡ answerOf (readSpans (asHome h) 2 (settled (asAddress named)) p (laterSpans (cells (now (track .entry)) (now (marks .entry))))) ⌝ }
 {
     if track.len() == 0 {

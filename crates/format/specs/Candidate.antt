@@ -8,7 +8,7 @@ use Rattle.format.specs.Judged.{Judged, good, refused}
 use Rattle.format.specs.Opening.{startsWith, plainOpening, opens}
 use Rattle.format.specs.Home.{findHome, firstCountPlace}
 use Rattle.format.specs.Count.{countFits, countClosed}
-use Rattle.format.specs.Span.{runsToIndex, afterOpening}
+use Rattle.format.specs.Span.{runsToIndex, spanRest}
 use Rattle.format.specs.Sector.{openingLength}
 
 -- A count that opens: its place, is it sector 0's, does its span run to index, and what follows the opening in the span.
@@ -27,7 +27,7 @@ firstOpensAt (good h) p c = eqb p (firstCountPlace h) && startsWith plainOpening
 unfoldable pub candidateAt : Bool → ℕ → List ℕ → Candidate
 candidateAt first p c =
     let o = openingLength first in
-    record { place = p; first = first; last = runsToIndex o c; rest = afterOpening o c }
+    record { place = p; first = first; last = runsToIndex o c; rest = spanRest o c }
 
 -- Its count lies in its span and passes its check and closing byte.
 unfoldable pub countPasses : Candidate → Bool

@@ -14,7 +14,7 @@ use Rattle.format.specs.Flag.{condition}
 use Rattle.format.specs.Address.{Address, sameAddress}
 use Rattle.format.specs.Home.{Home, judgeHome, firstCountPlace}
 use Rattle.format.specs.Count.{unsettled, countAddress}
-use Rattle.format.specs.Span.{afterOpening}
+use Rattle.format.specs.Span.{spanRest}
 use Rattle.format.specs.Sector.{judgeCount}
 use Rattle.format.specs.Accept.{Accepted, accept}
 use Rattle.format.specs.Find.{find}
@@ -45,7 +45,7 @@ namedTrack h c = countAddress (drop plainLength (fromFirstCount h c))
 unfoldable pub judgeFirstCount : Home → List ℕ → Judged Home
 judgeFirstCount h c =
     require (startsWith plainOpening (fromFirstCount h c)) (firstCountMissing (firstCountPlace (h .place)))
-    (then (judgeCount h 0 unsettled (firstCountPlace (h .place)) (afterOpening plainLength (fromFirstCount h c))) (λ _. good h))
+    (then (judgeCount h 0 unsettled (firstCountPlace (h .place)) (spanRest plainLength (fromFirstCount h c))) (λ _. good h))
 
 -- The first track's home and sector 0's count: 1 to 4, then the count.
 unfoldable pub judgeFirst : List ℕ → List ℕ → Judged Home

@@ -22,9 +22,9 @@ runsToIndex o c = eqb (unmarkedRun (drop o c)) (length (drop o c))
 unfoldable pub spanLength : ℕ → List ℕ → ℕ
 spanLength o c = pick (runsToIndex o c) (length c) (o + unmarkedRun (drop o c) - 5)
 
--- What follows the opening in its span.
-unfoldable pub afterOpening : ℕ → List ℕ → List ℕ
-afterOpening o c = drop o (take (spanLength o c) c)
+-- The rest of a span: what follows its count's opening.
+unfoldable pub spanRest : ℕ → List ℕ → List ℕ
+spanRest o c = drop o (take (spanLength o c) c)
 
 -- The cells before the first marked opening.
 unfoldable pub beforeOpening : List ℕ → List ℕ

@@ -16,7 +16,7 @@ use Rattle.format.specs.Count.{countFits, countClosed}
 use Rattle.format.specs.Span.{runsToIndex, spanLength}
 use Rattle.format.specs.Sector.{openingLength}
 use Rattle.format.specs.Candidate.{Candidate, firstOpensAt, candidateAt, countPasses, standsAt}
-use Rattle.format.proofs.Find.CandidateBytes.{after-length, after-bytes}
+use Rattle.format.proofs.Find.CandidateBytes.{span-rest-length, span-rest-bytes}
 use Rattle.reader.specs.Finding.{asCandidate, passing, standingAt}
 use Rattle.reader.specs.declared.candidate.Candidate.{Candidate as CandidateCode}
 
@@ -46,7 +46,7 @@ module _ (t m : List ℕ) (first last : Bool) (p o n : ℕ) (eo : o ≡ openingL
       let d : List ℕ = drop p (cells t m) in
       let f : n ≡ spanLength (openingLength first) d = en ∙ ap (λ (k : ℕ). spanLength k d) eo in
       let l : last ≡ runsToIndex (openingLength first) d = el ∙ ap (λ (k : ℕ). runsToIndex k d) eo in
-      rw (← l, after-bytes (openingLength first) p (n - o) t m (omega (arith, f, eo)))
+      rw (← l, span-rest-bytes (openingLength first) p (n - o) t m (omega (arith, f, eo)))
 
   -- The bytes that are looked at are those that follow its opening.
   looked-at : take (p + o + (n - o) - (p + o)) (drop (p + o) t) ≡ asCandidate t opened .rest
@@ -56,7 +56,7 @@ module _ (t m : List ℕ) (first last : Bool) (p o n : ℕ) (eo : o ≡ openingL
   length-looked =
       let d : List ℕ = drop p (cells t m) in
       let f : n ≡ spanLength (openingLength first) d = en ∙ ap (λ (k : ℕ). spanLength k d) eo in
-      ap length (sym (after-bytes (openingLength first) p (n - o) t m (omega (arith, f, eo)))) ∙ after-length (openingLength first) d ∙ omega (arith, f, eo)
+      ap length (sym (span-rest-bytes (openingLength first) p (n - o) t m (omega (arith, f, eo)))) ∙ span-rest-length (openingLength first) d ∙ omega (arith, f, eo)
 
   -- It lies in its span and is closed.
   pub passing-yes : 12 ≤ n - o → countClosed (take (p + o + (n - o) - (p + o)) (drop (p + o) t)) ≡ true

@@ -17,7 +17,7 @@ use Rattle.format.specs.Flag.{condition}
 use Rattle.format.specs.Address.{Address, addressIn, sameAddress}
 use Rattle.format.specs.Home.{Home, judgeHome, firstCountPlace}
 use Rattle.format.specs.Count.{unsettled}
-use Rattle.format.specs.Span.{afterOpening}
+use Rattle.format.specs.Span.{spanRest}
 use Rattle.format.specs.Sector.{judgeCount}
 use Rattle.format.specs.Accept.{Accepted, accept}
 use Rattle.format.specs.Find.{find}
@@ -34,7 +34,7 @@ refused-is (refused b) a e n = ap (λ (z : Answer). refused z) (sym e)
 -- Sector 0's count behind the home h of the track c.
 module _ (h : Home) (c : List ℕ) where
   abbrev count : Judged (Unit {0})
-  count = judgeCount h 0 unsettled (firstCountPlace (h .place)) (afterOpening 6 (fromFirstCount h c))
+  count = judgeCount h 0 unsettled (firstCountPlace (h .place)) (spanRest 6 (fromFirstCount h c))
 
   -- It does not open.
   pub count-missing : startsWith plainOpening (fromFirstCount h c) ≡ false → judgeFirstCount h c ≡ refused (firstCountMissing (firstCountPlace (h .place)))
@@ -50,7 +50,7 @@ module _ (h : Home) (c : List ℕ) where
   pub count-right : (a : Answer) → startsWith plainOpening (fromFirstCount h c) ≡ true → a ≡ answerOf count → a .number ≡ 0 → judgeFirstCount h c ≡ good h
   unfolding judgeFirstCount
   count-right a o e z =
-      rw (o, count-zero h 0 unsettled (firstCountPlace (h .place)) (afterOpening 6 (fromFirstCount h c)) (ap (λ (b : Answer). b .number) (sym e) ∙ z))
+      rw (o, count-zero h 0 unsettled (firstCountPlace (h .place)) (spanRest 6 (fromFirstCount h c)) (ap (λ (b : Answer). b .number) (sym e) ∙ z))
 
 -- The first track: lent out of rule, with a home that is refused, or by its count.
 module _ (t m : List ℕ) where

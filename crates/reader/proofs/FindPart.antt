@@ -21,7 +21,7 @@ use Rattle.reader.specs.Finding.{asCandidate, asPart}
 use Rattle.reader.specs.declared.candidate.Candidate.{Candidate as CandidateCode}
 use Rattle.reader.specs.declared.finding.Part.{Part as PartCode}
 use Rattle.reader.proofs.CandidateNext.{candidatesAt, carrying-first, none-first}
-use Rattle.format.proofs.Find.FindParts.{behindCount}
+use Rattle.format.proofs.Find.FindParts.{restPlace}
 use Rattle.format.proofs.Base.Judged.{refusal-is}
 use Rattle.format.proofs.Track.Pairs.{lent-length}
 use Rattle.base.proofs.Tests.{and-both}
@@ -68,7 +68,7 @@ module _ (w : Wanted) (t : List ℕ) (x : CandidateCode) (r : List ℕ) (e : r �
   y = asCandidate t x
 
   abbrev q : ℕ
-  q = behindCount y
+  q = restPlace y
 
   fit-here : judgeFit (y .place) (y .last) (y .rest) ≡ judgeFit (x .place) (x .last) r
   fit-here = ap (judgeFit (x .place) (x .last)) (sym e)

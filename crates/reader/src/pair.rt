@@ -4,7 +4,7 @@ ghost use Prim.Native.Nat.{_≤_};
 ghost use lib.ListN.{length, getD, drop};
 ghost use Rattle.format.specs.Lent.{cells};
 ghost use Rattle.format.specs.Address.{sameAddress};
-ghost use Rattle.format.specs.Span.{afterOpening};
+ghost use Rattle.format.specs.Span.{spanRest};
 ghost use Rattle.format.specs.Accept.{accept};
 ghost use Rattle.format.specs.PairFind.{namedTrack, judgeFirstCount, judgeFirst, pairAgrees, findOnSecond, pairFind};
 ghost use Rattle.sector.specs.As.{asAddress, asHome};
@@ -33,8 +33,8 @@ pub struct Paired {
 }
 
 // What follows the opening of sector 0's count at place p in its span.
-fn behind_opening<'a>(track: &'a [u8], marks: &[u8], p: usize) -> &'a [u8]
-    ensures { λ r. ⌜ now r ≡ afterOpening 6 (drop p (cells (now (track .entry)) (now (marks .entry)))) ⌝ }
+fn first_rest<'a>(track: &'a [u8], marks: &[u8], p: usize) -> &'a [u8]
+    ensures { λ r. ⌜ now r ≡ spanRest 6 (drop p (cells (now (track .entry)) (now (marks .entry)))) ⌝ }
 {
     let span = search::span_at(track, marks, p, PLAIN);
     if span.length < PLAIN {
@@ -60,7 +60,7 @@ fn judge_first_count(track: &[u8], marks: &[u8], h: Home) -> HomeJudged
 {
     let p = h.place + HOME_TO_COUNT;
     if search::opens_plain(track, marks, p) {
-        let r = behind_opening(track, marks, p);
+        let r = first_rest(track, marks, p);
         let a = sector::judge_count(h, 0, sector::Named::Unsettled, p, r);
         if a.number != 0 {
             return HomeJudged::Refused(a);

@@ -48,7 +48,11 @@ fn block_end(r: &[u8]) -> usize
 {
     let at = data_offset(r);
     let n = data_length(r);
-    if n == 0 { at + EMPTY_BLOCK } else { at + n + BLOCK_FRAME }
+    if n == 0 {
+        at + EMPTY_BLOCK
+    } else {
+        at + n + BLOCK_FRAME
+    }
 }
 
 // The measures of what follows a count's opening.

@@ -12,7 +12,7 @@ use Rattle.format.specs.Judged.{good}
 use Rattle.format.specs.Lent.{lengthRight, cells}
 use Rattle.format.specs.Home.{Home, firstCountPlace}
 use Rattle.format.specs.Count.{Settled, unsettled}
-use Rattle.format.specs.Span.{runsToIndex, spanLength, afterOpening, joined, none, cleanSpan, cleanSpans}
+use Rattle.format.specs.Span.{runsToIndex, spanLength, spanRest, joined, none, cleanSpan, cleanSpans}
 use Rattle.format.specs.Sector.{Sector, openingLength, isFirst, settle, readSpan}
 use Rattle.format.specs.Accept.{Placed, placedFrom, Accepted, spansOf, accept, endOf}
 use Rattle.format.specs.Listing.{listed}
@@ -21,7 +21,7 @@ use Rattle.format.proofs.Spans.Shape.{Shape}
 use Rattle.format.proofs.Spans.Cutting.{joined-spans}
 use Rattle.format.proofs.Track.HomeLocal.{home-window}
 use Rattle.format.proofs.Spans.SpanAgrees.{span-agrees}
-use Rattle.format.proofs.Sector.ReadSector.{behindOpening, read-inv, span-least}
+use Rattle.format.proofs.Sector.ReadSector.{restOf, read-inv, span-least}
 use Rattle.format.proofs.Sector.Valid.{FitsCount, info-fits}
 use Rattle.format.proofs.Sector.ReadBack.{read-valid}
 use Rattle.format.proofs.Sector.ReadsAs.{Reads, accepted-by}
@@ -43,7 +43,7 @@ unfolding cleanSpans
 span-steps t m h i x p g gs s e k c d l w b f =
     let v = read-inv h i x p (none gs) g s e in
     let o : ℕ = openingLength (isFirst i) in
-    let r : List ℕ = behindOpening i g in
+    let r : List ℕ = restOf i g in
     let n = span-least h i x (none gs) g s v in
     let a = span-agrees i g gs k c (omega arith) in
     let u = and-both (cleanSpan i g) (cleanSpans (suc i) gs) c in
@@ -51,7 +51,7 @@ span-steps t m h i x p g gs s e k c d l w b f =
     subst (λ (z : Sector). Stepping t m p (record { place = p; span = g; sector = z }) (none gs)) (sym (v .sector-is))
     (stepping-made t m (isFirst i) p b f g (none gs) r refl
     (ap (spanLength o) d ∙ a .0)
-    (ap (afterOpening o) d ∙ a .1)
+    (ap (spanRest o) d ∙ a .1)
     (ap (runsToIndex o) d ∙ a .2)
     (omega (arith, ap length d, length-drop p (cells t m), length-append g (joined gs)))
     (omega arith)

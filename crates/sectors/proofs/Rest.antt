@@ -12,22 +12,22 @@ use Rattle.base.specs.Pick.{pick}
 use Rattle.format.specs.Lent.{cells}
 use Rattle.format.specs.Count.{countFlag, countAddress, countNumber, keyLength, dataLength}
 use Rattle.format.specs.Block.{keyOffset, dataOffset, blockEnd}
-use Rattle.format.specs.Span.{runsToIndex, spanLength, afterOpening}
+use Rattle.format.specs.Span.{runsToIndex, spanLength, spanRest}
 use Rattle.format.specs.Sector.{openingLength}
 use Rattle.base.proofs.Tests.{cases}
 use Rattle.base.proofs.Lists.{none-long}
-use Rattle.format.proofs.Find.CandidateBytes.{after-length, after-front-bytes, after-bytes}
+use Rattle.format.proofs.Find.CandidateBytes.{span-rest-length, span-rest-front, span-rest-bytes}
 use Rattle.search.proofs.Run.{span-le}
 use Rattle.format.proofs.Track.Pairs.{length-cells}
 use Rattle.sectors.specs.declared.SectorAt.{SectorAt as SectorCode}
 use Rattle.sectors.specs.SectorAt.{SectorAt, sectorFields, nowhere, lastFirstCount, opensFirst, restAt, sectorAt, asSectorAt}
 
 -- A place in what follows a count's opening is one in the track.
-pub after-place : (t m : List ℕ) (p o i n : ℕ) → i + n ≤ length (afterOpening o (drop p (cells t m)))
-    → take n (drop (p + o + i) t) ≡ take n (drop i (afterOpening o (drop p (cells t m))))
-after-place t m p o i n l =
-    let r : List ℕ = afterOpening o (drop p (cells t m)) in
-    let f = after-front-bytes t m p o in
+pub span-rest-place : (t m : List ℕ) (p o i n : ℕ) → i + n ≤ length (spanRest o (drop p (cells t m)))
+    → take n (drop (p + o + i) t) ≡ take n (drop i (spanRest o (drop p (cells t m))))
+span-rest-place t m p o i n l =
+    let r : List ℕ = spanRest o (drop p (cells t m)) in
+    let f = span-rest-front t m p o in
     let z : List ℕ = f .0 in
     ap (take n) (sym (drop-drop i (p + o) t) ∙ ap (drop i) (f .1) ∙ drop-append-le i r z (omega arith))
     ∙ take-append-le n (drop i r) z (omega (arith, length-drop i r))
@@ -56,7 +56,7 @@ module _ (t m : List ℕ) (p o n : ℕ) (w : o ≡ openingLength (opensFirst p))
   -- What follows the opening has this length.
   rest-length : length (restAt p (cells t m)) ≡ n - o
   unfolding restAt
-  rest-length = ap (λ (k : ℕ). length (afterOpening k (drop p (cells t m)))) (sym w) ∙ after-length o (drop p (cells t m)) ∙ ap (λ (k : ℕ). k - o) (sym s)
+  rest-length = ap (λ (k : ℕ). length (spanRest k (drop p (cells t m)))) (sym w) ∙ span-rest-length o (drop p (cells t m)) ∙ ap (λ (k : ℕ). k - o) (sym s)
 
   -- The span ends before its opening does: nothing follows.
   pub rest-none : n < o → [] ≡ restAt p (cells t m)
@@ -65,7 +65,7 @@ module _ (t m : List ℕ) (p o n : ℕ) (w : o ≡ openingLength (opensFirst p))
   -- What follows the opening are these bytes of the track.
   pub rest-bytes : take (p + n - (p + o)) (drop (p + o) t) ≡ restAt p (cells t m)
   unfolding restAt
-  rest-bytes = sym (after-bytes o p (p + n - (p + o)) t m (omega arith)) ∙ ap (λ (i : ℕ). afterOpening i (drop p (cells t m))) w
+  rest-bytes = sym (span-rest-bytes o p (p + n - (p + o)) t m (omega arith)) ∙ ap (λ (i : ℕ). spanRest i (drop p (cells t m))) w
 
   -- The sector at place p by what follows the opening.
   pub sector-here : p ≤ 4002 → (last : Bool) → last ≡ runsToIndex o (drop p (cells t m)) → (r : List ℕ) → r ≡ restAt p (cells t m)

@@ -14,7 +14,7 @@ use Rattle.format.specs.Count.{keyLength, dataLength}
 use Rattle.format.specs.Block.{keySize, dataOffset, blockEnd, leastGap, blocksFit, blockInfo, keyInfo, dataInfo}
 use Rattle.format.specs.Blocks.{blocksAt}
 use Rattle.format.specs.Written.{dataSize}
-use Rattle.format.specs.Span.{runsToIndex, spanLength, afterOpening}
+use Rattle.format.specs.Span.{runsToIndex, spanLength, spanRest}
 use Rattle.format.specs.Sector.{openingLength, sectorIn}
 use Rattle.format.specs.Accept.{Placed, endOf}
 use Rattle.format.specs.Listing.{listed}
@@ -25,7 +25,7 @@ use Rattle.format.proofs.Sector.ReadSector.{fit-key, fit-data}
 use Rattle.format.proofs.Sector.Valid.{FitsCount}
 use Rattle.sectors.specs.SectorAt.{SectorAt, sectorFields, opensFirst, restAt, sectorAt}
 use Rattle.sectors.specs.From.{Stepping}
-use Rattle.sectors.proofs.Rest.{opening-least, after-place, sector-here}
+use Rattle.sectors.proofs.Rest.{opening-least, span-rest-place, sector-here}
 
 -- The sector that the span g at place p shows, of which r follows the count's opening.
 abbrev pub shownBy : Bool → ℕ → List ℕ → List ℕ → Placed
@@ -33,7 +33,7 @@ shownBy first p g r = record { place = p; span = g; sector = sectorIn first r }
 
 -- The span g stands at place p and runs up to the next mark, its blocks and the least gap fit, and the numbers of its sector fit the bytes of a count.
 module _ (t m : List ℕ) (first : Bool) (p : ℕ) (least : 48 ≤ p) (place : first ≡ opensFirst p) (g : List ℕ) (last : Bool) (r : List ℕ) (behind : drop (openingLength first) g ≡ r)
-    (size : spanLength (openingLength first) (drop p (cells t m)) ≡ length g) (after : afterOpening (openingLength first) (drop p (cells t m)) ≡ r)
+    (size : spanLength (openingLength first) (drop p (cells t m)) ≡ length g) (after : spanRest (openingLength first) (drop p (cells t m)) ≡ r)
     (runs : runsToIndex (openingLength first) (drop p (cells t m)) ≡ last) (inside : p + length g ≤ length (cells t m)) (low : p ≤ 4002)
     (long : openingLength first + length r ≡ length g) (fit : blocksFit last r ≡ true) (numbers : FitsCount (sectorIn first r)) where
   abbrev o : ℕ
@@ -45,7 +45,7 @@ module _ (t m : List ℕ) (first : Bool) (p : ℕ) (least : 48 ≤ p) (place : f
 
   rest-is : restAt p (cells t m) ≡ r
   unfolding restAt
-  rest-is = ap (λ (n : ℕ). afterOpening n (drop p (cells t m))) (sym opening-is) ∙ after
+  rest-is = ap (λ (n : ℕ). spanRest n (drop p (cells t m))) (sym opening-is) ∙ after
 
   step-is : sectorAt p (cells t m) ≡ sectorFields (p + o) (p + length g) last r
   step-is = sym (sector-here t m p o (length g) opening-is (sym size) low last (sym runs) r (sym rest-is))
@@ -56,7 +56,7 @@ module _ (t m : List ℕ) (first : Bool) (p : ℕ) (least : 48 ≤ p) (place : f
   -- A place in what follows the opening is one in the track.
   bytes-at : (i n : ℕ) → i + n ≤ length r → take n (drop (p + o + i) t) ≡ take n (drop i r)
   bytes-at i n l =
-      after-place t m p o i n (omega (arith, ap length after)) ∙ ap (λ (xs : List ℕ). take n (drop i xs)) after
+      span-rest-place t m p o i n (omega (arith, ap length after)) ∙ ap (λ (xs : List ℕ). take n (drop i xs)) after
 
   key-there : take (length (keyInfo r)) (drop (pick (eqb (keyLength r) 0) 0 (p + o + 23 + 6)) t) ≡ keyInfo r
   unfolding keyInfo blockInfo

@@ -9,7 +9,7 @@ use Rattle.format.specs.Layout.{longestTrack, homeLast, plainLength, homeToCoun
 use Rattle.format.specs.Address.{Address}
 use Rattle.format.specs.Count.{countFlag, countAddress, countNumber, keyLength, dataLength}
 use Rattle.format.specs.Block.{keyOffset, dataOffset, blockEnd}
-use Rattle.format.specs.Span.{runsToIndex, spanLength, afterOpening}
+use Rattle.format.specs.Span.{runsToIndex, spanLength, spanRest}
 use Rattle.format.specs.Sector.{openingLength}
 use Rattle.sector.specs.As.{asAddress}
 use Rattle.sectors.specs.declared.SectorAt.{SectorAt as SectorCode}
@@ -72,7 +72,7 @@ opensFirst p = leb p lastFirstCount
 
 -- What follows the count's opening at place p in its span.
 unfoldable pub restAt : ℕ → List ℕ → List ℕ
-restAt p c = afterOpening (openingLength (opensFirst p)) (drop p c)
+restAt p c = spanRest (openingLength (opensFirst p)) (drop p c)
 
 -- The sector whose count opens at place p of the cells c; no place is above 4,002, the largest L.
 unfoldable pub sectorAt : ℕ → List ℕ → SectorAt

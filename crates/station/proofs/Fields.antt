@@ -14,7 +14,7 @@ use Rattle.format.specs.Flag.{condition}
 use Rattle.format.specs.Home.{Home, findHome, judgeHome, firstCountPlace}
 use Rattle.format.specs.Count.{unsettled, countNumber, keyLength, dataLength}
 use Rattle.format.specs.Block.{blocksFit}
-use Rattle.format.specs.Span.{afterOpening}
+use Rattle.format.specs.Span.{spanRest}
 use Rattle.format.specs.Sector.{openingLength, judgeCount}
 use Rattle.format.specs.Accept.{Accepted, accept}
 use Rattle.format.specs.Candidate.{Candidate, firstOpensAt, candidateAt, standsAt, candidatesFrom, candidates}
@@ -47,7 +47,7 @@ at-small first p c l =
     let o : ℕ = openingLength first in
     let f = after-front o c in
     let n = ap length (f .1) in
-    let a = length-append (afterOpening o c) (f .0) in
+    let a = length-append (spanRest o c) (f .0) in
     record { place-few = omega arith; rest-few = λ z. omega (arith, n, a, length-drop o c); bytes = f .2 }
 
 -- The candidates from place p on.
@@ -128,8 +128,8 @@ first-within t m =
     let w = home-window c h e in
     let p : ℕ = firstCountPlace (h .place) in
     within-require (startsWith plainOpening (fromFirstCount h c)) (firstCountMissing p) _ (omega arith, omega arith) (λ _.
-    within-then (judgeCount h 0 unsettled p (afterOpening 6 (fromFirstCount h c))) _
-    (count-within h 0 unsettled p (afterOpening 6 (fromFirstCount h c)) (omega arith)) (λ _ _. (omega arith, omega arith)))))
+    within-then (judgeCount h 0 unsettled p (spanRest 6 (fromFirstCount h c))) _
+    (count-within h 0 unsettled p (spanRest 6 (fromFirstCount h c)) (omega arith)) (λ _ _. (omega arith, omega arith)))))
 
 -- The same of two tracks, of which 0 is the first and 1 the second.
 abbrev pub InsidePair : Paired → Type 0

@@ -15,7 +15,7 @@ use Rattle.format.specs.Home.{homeFrom, findHome, homeBytes, homeOf, homeFields
 use Rattle.format.specs.Count.{countFits, countClosed, countAddressRight, countFieldsRight}
 use Rattle.format.specs.Block.{keySize, dataOffset, blockEnd, leastGap, blocksFit, blockRight, blockInfo, keyRight, dataRight, keyInfo, dataInfo}
 use Rattle.format.specs.Written.{dataSize, gapOne, countInfo, writtenBlock, writtenKey, writtenData, countOpening, writtenSector, asPair, gapAfter, reach, writtenSpans, writtenBehind}
-use Rattle.format.specs.Span.{unmarkedRun, runsToIndex, spanLength, afterOpening, beforeOpening, laterSpans, spans}
+use Rattle.format.specs.Span.{unmarkedRun, runsToIndex, spanLength, spanRest, beforeOpening, laterSpans, spans}
 use Rattle.format.specs.Sector.{sectorIn, settle, judgeCount, readBlocks, judgeSector, readSpan, contentRight}
 use Rattle.format.specs.Accept.{judgeMarks, readSpans, placedFrom, among, judgeNumbers, judgeBehind, acceptCells, accept, endOf, fromNumber}
 use Rattle.format.specs.Blank.{namedBy, blankRight, writtenHead, blankSector, blank}
@@ -48,7 +48,7 @@ unfolding digits coefficients divisor bringDown remainder checkBytes
     homeFlagRight sequenceRight countFlagRight namesItself addressIn addressBytes addressInRange sameAddress addressRight
     homeFrom findHome homeBytes homeOf homeFieldsRight judgeHomeOf judgeHome countFits countClosed countAddressRight countFieldsRight
     keySize dataSize dataOffset blockEnd leastGap blocksFit blockRight blockInfo keyRight dataRight keyInfo dataInfo partAt blocksAt judgeFit
-    unmarkedRun runsToIndex spanLength afterOpening beforeOpening laterSpans spans sectorIn settle judgeCount readBlocks judgeSector readSpan
+    unmarkedRun runsToIndex spanLength spanRest beforeOpening laterSpans spans sectorIn settle judgeCount readBlocks judgeSector readSpan
     judgeMarks readSpans placedFrom among judgeNumbers judgeBehind acceptCells accept
     gapOne countInfo writtenBlock writtenKey writtenData countOpening writtenSector asPair gapAfter reach writtenSpans writtenBehind
     contentRight namedBy blankRight writtenHead blankSector blank bothLent endOf fromNumber judgeAbsent addedFlag addedSector addedTo addCells add

@@ -8,7 +8,7 @@ use Rattle.format.specs.Count.{settled}
 use Rattle.sector.specs.As.{asAddress, asHome}
 use Rattle.base.proofs.Lists.{part-all}
 use Rattle.accepting.proofs.AcceptAnswers.{answers-two}
-use Rattle.accepting.proofs.AcceptSpans.{front, rest-none, rest-next, front-refused, front-good}
+use Rattle.accepting.proofs.AcceptSpans.{front, later-none, rest-next, front-refused, front-good}
 use borrow.Fn.Kinds.{In}
 use borrow.Fn.PlainCycle.{Measures, is, falls, and}
 use Rattle.accepting.proofs.judge_even.Reads as judge-even
@@ -60,7 +60,7 @@ judge-even-done-requires t c κs = search needs
 judge-even-returns : (t : ℕ) → judge-even-lts.Need-returns (judge-even-calls t) (judge-even-at t) judge-even.Post
 judge-even-returns t c =
     let a = c .before .before .before .before .args in
-    c .done .ensures ∙ sym (rest-none (asHome (a .h)) 2 (settled (asAddress (a .named))) (a .p) (a .track .now) (a .marks .now) (c .before .if1 .taken))
+    c .done .ensures ∙ sym (later-none (asHome (a .h)) 2 (settled (asAddress (a .named))) (a .p) (a .track .now) (a .marks .now) (c .before .if1 .taken))
 
 judge-even-span-at-requires : (t : ℕ) → judge-even-lts.Need-span-at-requires (judge-even-calls t) (judge-even-at t) judge-even.Post
 judge-even-span-at-requires t c κs = search needs
@@ -165,7 +165,7 @@ judge-odd-done-requires t c κs = search needs
 judge-odd-returns : (t : ℕ) → judge-odd-lts.Need-returns (judge-odd-calls t) (judge-odd-at t) judge-odd.Post
 judge-odd-returns t c =
     let a = c .before .before .before .before .args in
-    c .done .ensures ∙ sym (rest-none (asHome (a .h)) 1 (settled (asAddress (a .named))) (a .p) (a .track .now) (a .marks .now) (c .before .if1 .taken))
+    c .done .ensures ∙ sym (later-none (asHome (a .h)) 1 (settled (asAddress (a .named))) (a .p) (a .track .now) (a .marks .now) (c .before .if1 .taken))
 
 judge-odd-span-at-requires : (t : ℕ) → judge-odd-lts.Need-span-at-requires (judge-odd-calls t) (judge-odd-at t) judge-odd.Post
 judge-odd-span-at-requires t c κs = search needs

@@ -8,14 +8,14 @@ use Rattle.format.specs.Judged.{answerOf}
 use Rattle.format.specs.Lent.{cells}
 use Rattle.format.specs.Span.{laterSpans}
 use Rattle.sectors.specs.SectorAt.{lastFirstCount, asSectorAt}
-use Rattle.accepting.specs.Accepting.{Rest}
+use Rattle.accepting.specs.Accepting.{LaterSpans}
 use Rattle.accepting.proofs.AcceptNumbers.{flagged, flagged-none, passed, passed-rest, passed-repeated, passed-next, zero-behind, zero-rest, zero-flagged}
 use Rattle.accepting.proofs.judge_numbers.Statement.{statement}
 use Rattle.accepting.proofs.judge_numbers.Tie as tie
 
 abbrev Inv-loop : tie.InvT-loop
 Inv-loop track marks p seen₀ number q₀ seen q =
-    (length seen ≡ 256) × (q < length track → lastFirstCount < q) × Rest q (drop q track) (drop q marks)
+    (length seen ≡ 256) × (q < length track → lastFirstCount < q) × LaterSpans q (drop q track) (drop q marks)
     × (flagged seen₀ q₀ (laterSpans (cells (drop q₀ track) (drop q₀ marks))) ≡ flagged seen q (laterSpans (cells (drop q track) (drop q marks))))
 
 abbrev μ-loop : tie.MeasureT-loop

@@ -10,7 +10,7 @@ use Rattle.format.specs.Judged.{Judged, good}
 use Rattle.format.specs.Lent.{unmarked}
 use Rattle.format.specs.Home.{Home, findHome, homeBytes, judgeHome, firstCountPlace}
 use Rattle.format.specs.Count.{Settled, unsettled}
-use Rattle.format.specs.Span.{afterOpening, runsToIndex, spanLength, spans, joined, none, cleanSpan, cleanSpans}
+use Rattle.format.specs.Span.{spanRest, runsToIndex, spanLength, spans, joined, none, cleanSpan, cleanSpans}
 use Rattle.format.specs.Sector.{Sector, openingLength, isFirst, settle}
 use Rattle.format.specs.Accept.{judgeMarks, Placed, placedFrom, Accepted, spansOf, firstCountEnd, acceptCells}
 use Rattle.format.specs.Candidate.{candidatesFrom, candidates}
@@ -62,7 +62,7 @@ candidates-accepted c a e =
 pub record SpanByMark (c : List ℕ) (o p : ℕ) (last : Bool) (g : List ℕ) : Type 0 where
   pub length-is : spanLength o (drop p c) ≡ length g
   pub span-is : take (spanLength o (drop p c)) (drop p c) ≡ g
-  pub rest-is : afterOpening o (drop p c) ≡ drop o g
+  pub rest-is : spanRest o (drop p c) ≡ drop o g
   pub runs : runsToIndex o (drop p c) ≡ last
 
 -- So are all the spans gs, the first of which stands in position i and at place p; the last one runs to index, and no other.

@@ -10,7 +10,7 @@ use lib.Seq.{take-at, drop-drop}
 use lib.Dec.{ltb, eqb}
 use borrow.Author.Tests.{ltb-true, eqb-true}
 use Rattle.format.specs.Lent.{cells, unmarked}
-use Rattle.format.specs.Span.{unmarkedRun, runsToIndex, spanLength, afterOpening}
+use Rattle.format.specs.Span.{unmarkedRun, runsToIndex, spanLength, spanRest}
 use Rattle.format.specs.Sector.{openingLength}
 use Rattle.format.specs.Candidate.{Candidate, candidates}
 use Rattle.base.proofs.Tests.{cases, and-both, and-make}
@@ -43,8 +43,8 @@ span-run o c =
     (λ e. rw e (omega arith))
 
 -- What follows an opening of o cells in its span is the front of what follows it, and is unmarked.
-pub after-front : (o : ℕ) (c : List ℕ) → (z : List ℕ) × (drop o c ≡ afterOpening o c ++ z) × (unmarked (afterOpening o c) ≡ true)
-unfolding afterOpening
+pub after-front : (o : ℕ) (c : List ℕ) → (z : List ℕ) × (drop o c ≡ spanRest o c ++ z) × (unmarked (spanRest o c) ≡ true)
+unfolding spanRest
 after-front o c =
     let n : ℕ = spanLength o c - o in (
       drop n (drop o c),
@@ -65,26 +65,26 @@ front-bytes (x ∷ r) z (b ∷ t) (k ∷ m) u e =
     ap₂ (λ (y : ℕ) (ys : List ℕ). y ∷ ys) (omega (arith, ltb-true x 256 (h .0))) (front-bytes r z t m (h .1) q)
 
 -- How many cells follow an opening of o cells in its span.
-pub after-length : (o : ℕ) (c : List ℕ) → length (afterOpening o c) ≡ spanLength o c - o
-unfolding afterOpening
-after-length o c =
+pub span-rest-length : (o : ℕ) (c : List ℕ) → length (spanRest o c) ≡ spanLength o c - o
+unfolding spanRest
+span-rest-length o c =
     let n : ℕ = spanLength o c - o in
     ap length (drop-take o (spanLength o c) c) ∙ omega (arith, length-take n (drop o c), span-run o c, run-le (drop o c))
 
 -- What follows an opening of o cells at place p in its span is the front of the track from there on.
-pub after-front-bytes : (t m : List ℕ) (p o : ℕ) → (z : List ℕ) × (drop (p + o) t ≡ afterOpening o (drop p (cells t m)) ++ z)
-after-front-bytes t m p o =
+pub span-rest-front : (t m : List ℕ) (p o : ℕ) → (z : List ℕ) × (drop (p + o) t ≡ spanRest o (drop p (cells t m)) ++ z)
+span-rest-front t m p o =
     let f = after-front o (drop p (cells t m)) in
-    let r : List ℕ = afterOpening o (drop p (cells t m)) in
+    let r : List ℕ = spanRest o (drop p (cells t m)) in
     let e : cells (drop (p + o) t) (drop (p + o) m) ≡ r ++ f .0 = sym (drop-cells (p + o) t m) ∙ sym (drop-drop o p (cells t m)) ∙ f .1 in
     (drop (length r) (drop (p + o) t), front-bytes r (f .0) (drop (p + o) t) (drop (p + o) m) (f .2) e)
 
 -- It is n bytes of the track, where its span has n cells behind its opening.
-pub after-bytes : (o p n : ℕ) (t m : List ℕ) → n ≡ spanLength o (drop p (cells t m)) - o → afterOpening o (drop p (cells t m)) ≡ take n (drop (p + o) t)
-after-bytes o p n t m e =
-    let r : List ℕ = afterOpening o (drop p (cells t m)) in
-    let f = after-front-bytes t m p o in
-    sym (ap (take n) (f .1) ∙ take-at r (f .0) n (after-length o (drop p (cells t m)) ∙ sym e))
+pub span-rest-bytes : (o p n : ℕ) (t m : List ℕ) → n ≡ spanLength o (drop p (cells t m)) - o → spanRest o (drop p (cells t m)) ≡ take n (drop (p + o) t)
+span-rest-bytes o p n t m e =
+    let r : List ℕ = spanRest o (drop p (cells t m)) in
+    let f = span-rest-front t m p o in
+    sym (ap (take n) (f .1) ∙ take-at r (f .0) n (span-rest-length o (drop p (cells t m)) ∙ sym e))
 
 -- The bytes of a candidate are the track's, from the end of its opening on.
 pub rest-in-track : (t m : List ℕ) (x : Candidate) → Member x (candidates (cells t m))
@@ -92,5 +92,5 @@ pub rest-in-track : (t m : List ℕ) (x : Candidate) → Member x (candidates (c
 rest-in-track t m x n =
     let v = candidate-means (cells t m) x n in
     let o : ℕ = openingLength (x .first) in
-    let f = after-front-bytes t m (x .place) o in
+    let f = span-rest-front t m (x .place) o in
     (f .0, f .1 ∙ ap (λ (r : List ℕ). r ++ f .0) (sym (v .rest-is)), ap unmarked (v .rest-is) ∙ after-front o (drop (x .place) (cells t m)) .2)

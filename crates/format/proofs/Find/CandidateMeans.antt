@@ -12,7 +12,7 @@ use borrow.Author.Tests.{eqb-true, eq-eqb}
 use Rattle.format.specs.Judged.{Judged, good, refused}
 use Rattle.format.specs.Opening.{startsWith, plainOpening, opens}
 use Rattle.format.specs.Home.{findHome, firstCountPlace}
-use Rattle.format.specs.Span.{runsToIndex, afterOpening}
+use Rattle.format.specs.Span.{runsToIndex, spanRest}
 use Rattle.format.specs.Sector.{openingLength}
 use Rattle.format.specs.Candidate.{Candidate, firstOpensAt, candidateAt, countPasses, standsAt, candidatesFrom, candidates}
 use Rattle.base.proofs.Tests.{cases, false-true, and-both, and-make}
@@ -28,7 +28,7 @@ CountOpens c false p = opens (drop p c) ≡ true
 pub record IsCandidate (c : List ℕ) (x : Candidate) : Type 0 where
   pub opened : CountOpens c (x .first) (x .place)
   pub last-is : x .last ≡ runsToIndex (openingLength (x .first)) (drop (x .place) c)
-  pub rest-is : x .rest ≡ afterOpening (openingLength (x .first)) (drop (x .place) c)
+  pub rest-is : x .rest ≡ spanRest (openingLength (x .first)) (drop (x .place) c)
   pub passes : countPasses x ≡ true
 
 -- x stands k cells behind the place p at which c starts.

@@ -21,7 +21,7 @@ use Rattle.format.specs.Find.{partOf, carrying, only, candidatePart, fin
 use Rattle.format.specs.Blocks.{Wanted, theKey, theData, Part, judgeFit, partIn}
 use Rattle.base.proofs.Tests.{cases, false-true}
 use Rattle.base.specs.Lists.{Member}
-use Rattle.format.proofs.Sector.ReadSector.{ReadAs, behindOpening, read-inv}
+use Rattle.format.proofs.Sector.ReadSector.{ReadAs, restOf, read-inv}
 use Rattle.format.proofs.Sector.ReadsAs.{Reads, AcceptedBy, accepted-by}
 use Rattle.format.proofs.Track.Pairs.{accepted-pair}
 use Rattle.format.proofs.Track.Sectors.{Distinct, numbersOf, numbers-distinct}
@@ -29,25 +29,25 @@ use Rattle.format.proofs.Find.SpanCandidates.{candidatesOf, none-placed
 use Rattle.format.proofs.Find.AcceptedCandidates.{candidates-accepted}
 use Rattle.format.proofs.Sector.BlocksJudged.{infoOf, rightOf, part-right}
 use Rattle.format.proofs.Find.FindSound.{find-hands-out}
-use Rattle.format.proofs.Find.FindParts.{behindCount}
+use Rattle.format.proofs.Find.FindParts.{restPlace}
 
 -- What follows the count's opening in the span of a sector.
-abbrev restOf : Placed → List ℕ
-restOf x = drop (openingLength (x .sector .first)) (x .span)
+abbrev placedRest : Placed → List ℕ
+placedRest x = drop (openingLength (x .sector .first)) (x .span)
 
 -- The sector x is what its span says.
 record ReadWell (last : Bool) (x : Placed) : Type 0 where
-  pub fits : blocksFit last (restOf x) ≡ true
-  pub key-right : keyRight (restOf x) ≡ true
-  pub data-right : dataRight (restOf x) ≡ true
-  pub number-is : countNumber (restOf x) ≡ x .sector .number
-  pub info-is : (w : Wanted) → infoOf w (restOf x) ≡ contentOf w (x .sector)
+  pub fits : blocksFit last (placedRest x) ≡ true
+  pub key-right : keyRight (placedRest x) ≡ true
+  pub data-right : dataRight (placedRest x) ≡ true
+  pub number-is : countNumber (placedRest x) ≡ x .sector .number
+  pub info-is : (w : Wanted) → infoOf w (placedRest x) ≡ contentOf w (x .sector)
 
 abbrev AllRead : List Placed → Type 0
 AllRead [] = Unit {0}
 AllRead (x ∷ xs) = ReadWell (none xs) x × AllRead xs
 
-read-info : (m : Home) (i : ℕ) (u : Settled) (last : Bool) (g : List ℕ) (s : Sector) → ReadAs m i u last g s → (w : Wanted) → infoOf w (behindOpening i g) ≡ contentOf w s
+read-info : (m : Home) (i : ℕ) (u : Settled) (last : Bool) (g : List ℕ) (s : Sector) → ReadAs m i u last g s → (w : Wanted) → infoOf w (restOf i g) ≡ contentOf w s
 unfolding sectorIn
 read-info m i u last g s v theKey = sym (ap (λ (z : Sector). z .keyBytes) (v .sector-is))
 read-info m i u last g s v theData = sym (ap (λ (z : Sector). z .dataBytes) (v .sector-is))
@@ -96,7 +96,7 @@ carrying-none n (x ∷ xs) r e =
 
 -- The candidate of a sector.
 abbrev candidateOf : Bool → Placed → Candidate
-candidateOf last x = record { place = x .place; first = x .sector .first; last = last; rest = restOf x }
+candidateOf last x = record { place = x .place; first = x .sector .first; last = last; rest = placedRest x }
 
 -- The candidate y is the only one of them that carries the number of its sector.
 record Carried (y : Placed) (xs : List Placed) : Type 0 where
@@ -131,14 +131,14 @@ accepted-read c a b =
     subst AllRead (sym (b .placed)) (reads-all (a .home) 0 unsettled p (spansOf (a .home) c) (b .sectors) (b .reads))
 
 -- The part that is asked for is right.
-well-right : (last : Bool) (x : Placed) → ReadWell last x → (w : Wanted) → rightOf w (restOf x) ≡ true
+well-right : (last : Bool) (x : Placed) → ReadWell last x → (w : Wanted) → rightOf w (placedRest x) ≡ true
 well-right last x v theKey = v .key-right
 well-right last x v theData = v .data-right
 
 find-alone : (s : ℕ) (w : Wanted) (t m : List ℕ) (x : Candidate) → lentForReading t m ≡ true → carrying s (candidates (cells t m)) ≡ x ∷ [] → blocksFit (x .last) (x .rest) ≡ true
-    → rightOf w (x .rest) ≡ true → find s w t m ≡ good (partIn w (behindCount x) (x .rest))
+    → rightOf w (x .rest) ≡ true → find s w t m ≡ good (partIn w (restPlace x) (x .rest))
 unfolding find findCells candidatePart only judgeFit
-find-alone s w t m x l o f e = rw (l, o, f) (part-right w (behindCount x) (x .rest) e)
+find-alone s w t m x l o f e = rw (l, o, f) (part-right w (restPlace x) (x .rest) e)
 
 -- On an accepted track Find hands out the key and the data of each sector.
 pub find-content : (t m : List ℕ) (a : Accepted) → accept t m ≡ good a → (x : Placed) → Member x (a .sectors) → (w : Wanted)
@@ -150,7 +150,7 @@ find-content t m a e x k w =
     let y = carrying-one x (a .sectors) (accepted-read c a (accepted-by c a (h .1))) (numbers-distinct c a (h .1)) k in
     let z : Candidate = candidateOf (y .last) x in
     let o : carrying n (candidates c) ≡ z ∷ [] = ap (carrying n) (candidates-accepted c a (h .1)) ∙ y .alone in
-    let g : Part = partIn w (behindCount z) (z .rest) in
+    let g : Part = partIn w (restPlace z) (z .rest) in
     let f : find n w t m ≡ good g = find-alone n w t m z (h .0) o (y .well .fits) (well-right (y .last) x (y .well) w) in
     let r = find-hands-out n w t m g f in
     let same : r .0 ≡ z = same-head (r .0) z (sym (r .1 .alone) ∙ o) in

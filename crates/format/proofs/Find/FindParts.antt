@@ -22,8 +22,8 @@ use Rattle.base.specs.Lists.{Member}
 use Rattle.format.proofs.Sector.BlocksJudged.{offsetOf, lengthOf, infoOf, part-good, right-block, part-in-is}
 
 -- Where the bytes of a count begin, behind its opening.
-abbrev pub behindCount : Candidate → ℕ
-behindCount x = x .place + openingLength (x .first)
+abbrev pub restPlace : Candidate → ℕ
+restPlace x = x .place + openingLength (x .first)
 
 -- The information in what follows the opening.
 pub info-is : (w : Wanted) (r : List ℕ) → infoOf w r ≡ take (lengthOf w r) (drop 6 (drop (offsetOf w r) r))
@@ -39,16 +39,16 @@ right-both n c e = and-both (startsWith plainOpening c) (closedAfter n (drop 6 c
 -- What a part is that was found to be right.
 pub record Right (w : Wanted) (x : Candidate) (part : Part) : Type 0 where
   pub size-is : part .size ≡ lengthOf w (x .rest)
-  pub start-is : eqb (lengthOf w (x .rest)) 0 ≡ false → part .start ≡ behindCount x + offsetOf w (x .rest) + 6
+  pub start-is : eqb (lengthOf w (x .rest)) 0 ≡ false → part .start ≡ restPlace x + offsetOf w (x .rest) + 6
   pub right : eqb (lengthOf w (x .rest)) 0 ≡ false → blockRight (lengthOf w (x .rest)) (drop (offsetOf w (x .rest)) (x .rest)) ≡ true
 
 -- The part asked for is right.
-pub found-right : (w : Wanted) (x : Candidate) (part : Part) → wantedPart w (blocksAt (behindCount x) (x .rest)) ≡ good part → Right w x part
+pub found-right : (w : Wanted) (x : Candidate) (part : Part) → wantedPart w (blocksAt (restPlace x) (x .rest)) ≡ good part → Right w x part
 unfolding partAt
 found-right w x part e =
     let r : List ℕ = x .rest in
-    let a = part-good w (behindCount x) r part e in
-    let is = sym (part-in-is w (behindCount x) r) ∙ a .1 in
+    let a = part-good w (restPlace x) r part e in
+    let is = sym (part-in-is w (restPlace x) r) ∙ a .1 in
     record {
       size-is = sym (ap (λ (p : Part). p .size) is);
       start-is = λ z. sym (ap (λ (p : Part). p .start) is) ∙ rw z;

@@ -22,12 +22,12 @@ use Rattle.format.proofs.Base.Judged.{then-good, require-good}
 use Rattle.base.proofs.Tests.{cases, false-true, and-both, and-make}
 use Rattle.base.specs.Lists.{Member}
 use Rattle.format.proofs.Find.CandidateBytes.{rest-in-track}
-use Rattle.format.proofs.Find.FindParts.{behindCount, info-is, right-both, Right, only-is, carrying-member, found-right}
+use Rattle.format.proofs.Find.FindParts.{restPlace, info-is, right-both, Right, only-is, carrying-member, found-right}
 use Rattle.format.proofs.Sector.BlocksJudged.{offsetOf, lengthOf, infoOf, block-fits, fit-good}
 
 -- The part, with its check and closing byte, lies in the span of the count x.
 abbrev pub InSpan : Candidate → Part → Type 0
-InSpan x part = (behindCount x ≤ part .start) × (part .start + part .size + 3 ≤ behindCount x + length (x .rest))
+InSpan x part = (restPlace x ≤ part .start) × (part .start + part .size + 3 ≤ restPlace x + length (x .rest))
 
 -- The part is handed out for the key or the data of sector s: it is that of the candidate x, the only one that carries s.
 pub record HandedOut (s : ℕ) (w : Wanted) (t m : List ℕ) (part : Part) (x : Candidate) : Type 0 where
@@ -37,7 +37,7 @@ pub record HandedOut (s : ℕ) (w : Wanted) (t m : List ℕ) (part : Part) (x : 
   pub size-is : part .size ≡ lengthOf w (x .rest)
   pub bytes : partOf t part ≡ infoOf w (x .rest)
   pub inside : (part .size ≡ 0) ⊎ InSpan x part
-  pub opened : (part .size ≡ 0) ⊎ (startsWith plainOpening (drop (behindCount x + offsetOf w (x .rest)) t) ≡ true)
+  pub opened : (part .size ≡ 0) ⊎ (startsWith plainOpening (drop (restPlace x + offsetOf w (x .rest)) t) ≡ true)
   pub closed : (part .size ≡ 0) ⊎ (closedAfter (part .size) (drop (part .start) t) ≡ true)
 
 starts-with-more : (o xs ys : List ℕ) → startsWith o xs ≡ true → startsWith o (xs ++ ys) ≡ true
@@ -70,10 +70,10 @@ module _ (w : Wanted) (t m : List ℕ) (x : Candidate) (part : Part) (k : Member
   length-info : n ≤ length info
   length-info = omega (arith, fits, length-drop 6 block, length-drop (offsetOf w (x .rest)) (x .rest))
 
-  block-start : (z : List ℕ) × (drop (behindCount x + offsetOf w (x .rest)) t ≡ block ++ z)
+  block-start : (z : List ℕ) × (drop (restPlace x + offsetOf w (x .rest)) t ≡ block ++ z)
   block-start =
       let b = rest-in-track t m x k in
-      (b .0, behind-front t (x .rest) (b .0) (behindCount x) (offsetOf w (x .rest)) (b .1) (omega (arith, fits)))
+      (b .0, behind-front t (x .rest) (b .0) (restPlace x) (offsetOf w (x .rest)) (b .1) (omega (arith, fits)))
 
   -- A part that is not empty starts at the information.
   part-start : eqb n 0 ≡ false → (z : List ℕ) × (drop (part .start) t ≡ info ++ z)
@@ -81,7 +81,7 @@ module _ (w : Wanted) (t m : List ℕ) (x : Candidate) (part : Part) (k : Member
       let b = block-start in (
         b .0,
         ap (λ (p : ℕ). drop p t) (v .start-is e)
-            ∙ behind-front t block (b .0) (behindCount x + offsetOf w (x .rest)) 6 (b .1) (omega (arith, fits, length-drop (offsetOf w (x .rest)) (x .rest))),
+            ∙ behind-front t block (b .0) (restPlace x + offsetOf w (x .rest)) 6 (b .1) (omega (arith, fits, length-drop (offsetOf w (x .rest)) (x .rest))),
       )
 
   -- An empty part shows nothing, and of any other this holds.
@@ -98,7 +98,7 @@ module _ (w : Wanted) (t m : List ℕ) (x : Candidate) (part : Part) (k : Member
       (λ e. let z : n ≡ 0 = eqb-true n 0 e in rw (info-is w (x .rest), v .size-is, z))
       (λ e. let b = part-start e in rw (info-is w (x .rest), v .size-is, b .1) (take-append-le n info (b .0) length-info))
 
-  part-opened : (part .size ≡ 0) ⊎ (startsWith plainOpening (drop (behindCount x + offsetOf w (x .rest)) t) ≡ true)
+  part-opened : (part .size ≡ 0) ⊎ (startsWith plainOpening (drop (restPlace x + offsetOf w (x .rest)) t) ≡ true)
   part-opened = unless-empty (λ e. let b = block-start in rw (b .1) (starts-with-more plainOpening block (b .0) (right-both n block (v .right e) .0)))
 
   part-closed : (part .size ≡ 0) ⊎ (closedAfter (part .size) (drop (part .start) t) ≡ true)

@@ -19,7 +19,7 @@ use Rattle.format.specs.Written.{countOpening, writtenSector, sectorSize
 use Rattle.format.specs.Correct.{withContent}
 use Rattle.format.proofs.Spans.Shape.{Valid}
 use Rattle.base.proofs.Tests.{and-both, and-make}
-use Rattle.format.proofs.Sector.ReadSector.{ReadAs, behindOpening, read-inv, read-make}
+use Rattle.format.proofs.Sector.ReadSector.{ReadAs, restOf, read-inv, read-make}
 use Rattle.format.proofs.Cells.Opening.{unmarked-replicate}
 use Rattle.format.proofs.Spans.Cutting.{later-unmarked, later-opening}
 use Rattle.format.proofs.Spans.SpanAgrees.{clean-behind}
@@ -46,7 +46,7 @@ rest-fields : (h : Home) (i : ℕ) (x : Settled) (s : Sector) (R : List ℕ) →
 unfolding countFieldsRight
 rest-fields h i x s R v = rw (rest-flag s R, rest-address s R) (and-make (v .flag-right) (v .address-right))
 
-behind-written : (i : ℕ) (r : List ℕ) → behindOpening i (countOpening (isFirst i) ++ r) ≡ r
+behind-written : (i : ℕ) (r : List ℕ) → restOf i (countOpening (isFirst i) ++ r) ≡ r
 unfolding countOpening
 behind-written zero r = refl
 behind-written (suc i) r = refl
@@ -107,7 +107,7 @@ written-clean h (suc i) x s m v = rw (written-at (suc i) s (replicate m 0xFF) (v
 pub read-valid : (h : Home) (i : ℕ) (x : Settled) (p : ℕ) (last : Bool) (g : List ℕ) (s : Sector) → cleanSpan i g ≡ true → readSpan h i x p last g ≡ good s → Valid h i x s
 read-valid h i x p last g s c e =
     let v = read-inv h i x p last g s e in
-    subst (Valid h i x) (sym (v .sector-is)) (sector-valid h i x (behindOpening i g) (clean-behind i g c) (v .fields-right))
+    subst (Valid h i x) (sym (v .sector-is)) (sector-valid h i x (restOf i g) (clean-behind i g c) (v .fields-right))
 
 -- A new key and data within the rule leave a sector able to stand.
 pub content-valid : (h : Home) (i : ℕ) (x : Settled) (s : Sector) (key body : List ℕ) → Valid h i x s → contentRight key body ≡ true → unmarked key ≡ true → unmarked body ≡ true

@@ -18,7 +18,7 @@ use Rattle.format.specs.Sector.{Sector, openingLength, isFirst, sectorIn
 use Rattle.base.proofs.Tests.{cases}
 use Rattle.format.proofs.Sector.BlockEnd.{key-in-offset, key-block-in-offset, data-in-end, block-in-end, count-in, byte-same, key-length-same, data-length-same, offset-same, end-same}
 use Rattle.format.proofs.Cells.Local.{starts-local, closed-local, block-local, info-local}
-use Rattle.format.proofs.Sector.ReadSector.{behindOpening, read-inv, read-make}
+use Rattle.format.proofs.Sector.ReadSector.{restOf, read-inv, read-make}
 
 -- The blocks behind the opening end within xs: what follows xs does not matter to them.
 module _ (xs ys zs : List ℕ) (ends : blockEnd (xs ++ ys) ≤ length xs) where
@@ -77,8 +77,8 @@ module _ (i : ℕ) (w y z : List ℕ) where
 
   -- What is read from w ++ y, whose block ends within w, is read from w ++ z, which may run to index or not.
   pub read-prefix : (h : Home) (x : Settled) (p q : ℕ) (last final : Bool) (s : Sector) → readSpan h i x p last (w ++ y) ≡ good s
-      → openingLength (isFirst i) + blockEnd (behindOpening i (w ++ y)) ≤ length w
-      → openingLength (isFirst i) + blockEnd (behindOpening i (w ++ y)) + leastGap final ≤ length (w ++ z)
+      → openingLength (isFirst i) + blockEnd (restOf i (w ++ y)) ≤ length w
+      → openingLength (isFirst i) + blockEnd (restOf i (w ++ y)) + leastGap final ≤ length (w ++ z)
       → readSpan h i x q final (w ++ z) ≡ good s
   unfolding countFits blocksFit
   read-prefix h x p q last final s e ends room =

@@ -19,20 +19,20 @@ use Rattle.format.proofs.Sector.Sizes.{rest-least}
 use Rattle.format.proofs.Sector.BlocksJudged.{fit-good, part-good}
 use Rattle.format.proofs.Sector.BlockEnd.{key-in-offset, data-in-end, end-in-span}
 
--- What follows the count's opening in the span g of position i.
-abbrev pub behindOpening : ℕ → List ℕ → List ℕ
-behindOpening i g = drop (openingLength (isFirst i)) g
+-- The rest of the span g in position i.
+abbrev pub restOf : ℕ → List ℕ → List ℕ
+restOf i g = drop (openingLength (isFirst i)) g
 
 -- The span g in position i passes every test of reading, and shows the sector s.
 pub record ReadAs (h : Home) (i : ℕ) (x : Settled) (last : Bool) (g : List ℕ) (s : Sector) : Type 0 where
   pub opened : i ≡ 0 → startsWith plainOpening g ≡ true
-  pub count-fits : countFits (behindOpening i g) ≡ true
-  pub count-closed : countClosed (behindOpening i g) ≡ true
-  pub fields-right : countFieldsRight h i x (behindOpening i g) ≡ true
-  pub blocks-fit : blocksFit last (behindOpening i g) ≡ true
-  pub key-right : keyRight (behindOpening i g) ≡ true
-  pub data-right : dataRight (behindOpening i g) ≡ true
-  pub sector-is : s ≡ sectorIn (isFirst i) (behindOpening i g)
+  pub count-fits : countFits (restOf i g) ≡ true
+  pub count-closed : countClosed (restOf i g) ≡ true
+  pub fields-right : countFieldsRight h i x (restOf i g) ≡ true
+  pub blocks-fit : blocksFit last (restOf i g) ≡ true
+  pub key-right : keyRight (restOf i g) ≡ true
+  pub data-right : dataRight (restOf i g) ≡ true
+  pub sector-is : s ≡ sectorIn (isFirst i) (restOf i g)
 
 count-inv : (h : Home) (i : ℕ) (x : Settled) (p : ℕ) (r : List ℕ) (u : Unit {0}) → judgeCount h i x p r ≡ good u
     → (countFits r ≡ true) × ((countClosed r ≡ true) × (countFieldsRight h i x r ≡ true))
@@ -111,9 +111,9 @@ read-make h (suc i) x p last g s v =
 
 -- What reading tells of lengths: the blocks and the least gap lie in the span, and the key and the data are as long as the count says.
 pub record Lengths (i : ℕ) (last : Bool) (g : List ℕ) (s : Sector) : Type 0 where
-  pub reaches : openingLength (isFirst i) + blockEnd (behindOpening i g) + leastGap last ≤ length g
-  pub key-length : length (s .keyBytes) ≡ keyLength (behindOpening i g)
-  pub data-length : length (s .dataBytes) ≡ dataLength (behindOpening i g)
+  pub reaches : openingLength (isFirst i) + blockEnd (restOf i g) + leastGap last ≤ length g
+  pub key-length : length (s .keyBytes) ≡ keyLength (restOf i g)
+  pub data-length : length (s .dataBytes) ≡ dataLength (restOf i g)
 
 -- The key of blocks that fit is as long as the count says.
 pub fit-key : (last : Bool) (r : List ℕ) → blocksFit last r ≡ true → length (keyInfo r) ≡ keyLength r
@@ -129,7 +129,7 @@ fit-data last r e = simp (length-take, length-drop) (omega (arith, end-in-span r
 pub read-length : (h : Home) (i : ℕ) (x : Settled) (last : Bool) (g : List ℕ) (s : Sector) → ReadAs h i x last g s → Lengths i last g s
 unfolding sectorIn
 read-length h i x last g s v =
-    let r : List ℕ = behindOpening i g in
+    let r : List ℕ = restOf i g in
     let k : length (s .keyBytes) ≡ keyLength r = ap (λ (z : Sector). length (z .keyBytes)) (v .sector-is) ∙ fit-key last r (v .blocks-fit) in
     let d : length (s .dataBytes) ≡ dataLength r = ap (λ (z : Sector). length (z .dataBytes)) (v .sector-is) ∙ fit-data last r (v .blocks-fit) in
     record {
@@ -142,5 +142,5 @@ read-length h i x last g s v =
 pub span-least : (h : Home) (i : ℕ) (x : Settled) (last : Bool) (g : List ℕ) (s : Sector) → ReadAs h i x last g s
     → openingLength (isFirst i) + pick last 43 51 ≤ length g
 span-least h i x last g s v =
-    let r : List ℕ = behindOpening i g in
+    let r : List ℕ = restOf i g in
     omega (arith, read-length h i x last g s v .reaches, key-in-offset r, data-in-end r, rest-least last)

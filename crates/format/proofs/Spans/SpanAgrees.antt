@@ -10,7 +10,7 @@ use lib.Dec.{ltb}
 use borrow.Author.Tests.{eq-eqb, ne-eqb}
 use Rattle.format.specs.Lent.{unmarked}
 use Rattle.format.specs.Opening.{opens}
-use Rattle.format.specs.Span.{unmarkedRun, joined, none, afterOpening, runsToIndex, spanLength, cleanSpan, cleanSpans}
+use Rattle.format.specs.Span.{unmarkedRun, joined, none, spanRest, runsToIndex, spanLength, cleanSpan, cleanSpans}
 use Rattle.format.specs.Sector.{openingLength, isFirst}
 use Rattle.format.proofs.Spans.Shape.{Shape, FirstReaches}
 use Rattle.base.proofs.Tests.{and-both}
@@ -37,18 +37,18 @@ run-opens c e = ap unmarkedRun (opens-front c e)
 
 -- What the span of the count with an opening of o cells at the front of c is, and does it run to index?
 abbrev SpanIs : ℕ → List ℕ → List ℕ → Bool → Type 0
-SpanIs o c g last = (spanLength o c ≡ length g) × (afterOpening o c ≡ drop o g) × (runsToIndex o c ≡ last)
+SpanIs o c g last = (spanLength o c ≡ length g) × (spanRest o c ≡ drop o g) × (runsToIndex o c ≡ last)
 
 -- No mark follows.
 span-last : (o : ℕ) (g : List ℕ) → unmarked (drop o g) ≡ true → SpanIs o (g ++ []) g true
-unfolding spanLength afterOpening runsToIndex
+unfolding spanLength spanRest runsToIndex
 span-last o g u =
     rw (append-nil g, eq-eqb (unmarkedRun (drop o g)) (length (drop o g)) (run-whole (drop o g) u))
     (refl, ap (drop o) (take-all (length g) g (omega arith)), refl)
 
 -- An opening follows.
 span-next : (o : ℕ) (g ys : List ℕ) → o ≤ length g → unmarked (drop o g) ≡ true → opens ys ≡ true → SpanIs o (g ++ ys) g false
-unfolding spanLength afterOpening runsToIndex
+unfolding spanLength spanRest runsToIndex
 span-next o g ys l u e =
     let n : unmarkedRun (drop o g ++ ys) ≡ length (drop o g) + 5 = run-append (drop o g) ys u ∙ ap (λ (k : ℕ). length (drop o g) + k) (run-opens ys e) in
     let m : length (drop o g ++ ys) ≡ length (drop o g) + length ys = length-append (drop o g) ys in
@@ -71,7 +71,7 @@ opens-next (suc i) g k gs s = opens-joined (suc i) k gs (s .1)
 -- The first of the spans is what the next mark gives, where it is the last or holds its opening: its length, what follows its opening, and is it the last?
 pub first-by-mark : (i : ℕ) (g : List ℕ) (gs : List (List ℕ)) → Shape i (g ∷ gs) → cleanSpans i (g ∷ gs) ≡ true → FirstReaches (openingLength (isFirst i)) (g ∷ gs)
     → (spanLength (openingLength (isFirst i)) (joined (g ∷ gs)) ≡ length g)
-    × (afterOpening (openingLength (isFirst i)) (joined (g ∷ gs)) ≡ drop (openingLength (isFirst i)) g)
+    × (spanRest (openingLength (isFirst i)) (joined (g ∷ gs)) ≡ drop (openingLength (isFirst i)) g)
     × (runsToIndex (openingLength (isFirst i)) (joined (g ∷ gs)) ≡ none gs)
 unfolding cleanSpans
 first-by-mark i g [] s c l = span-last (openingLength (isFirst i)) g (clean-behind i g (and-both (cleanSpan i g) true c .0))
@@ -81,7 +81,7 @@ first-by-mark i g (k ∷ gs) s c l =
 -- So it is wherever it holds its opening.
 pub span-agrees : (i : ℕ) (g : List ℕ) (gs : List (List ℕ)) → Shape i (g ∷ gs) → cleanSpans i (g ∷ gs) ≡ true → openingLength (isFirst i) ≤ length g
     → (spanLength (openingLength (isFirst i)) (joined (g ∷ gs)) ≡ length g)
-    × (afterOpening (openingLength (isFirst i)) (joined (g ∷ gs)) ≡ drop (openingLength (isFirst i)) g)
+    × (spanRest (openingLength (isFirst i)) (joined (g ∷ gs)) ≡ drop (openingLength (isFirst i)) g)
     × (runsToIndex (openingLength (isFirst i)) (joined (g ∷ gs)) ≡ none gs)
 span-agrees i g [] s c l = first-by-mark i g [] s c tt
 span-agrees i g (k ∷ gs) s c l = first-by-mark i g (k ∷ gs) s c l

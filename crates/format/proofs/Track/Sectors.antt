@@ -23,7 +23,7 @@ use Rattle.format.proofs.Base.Judged.{require-good}
 use Rattle.base.proofs.Tests.{cases, false-true, and-both}
 use Rattle.format.proofs.Spans.Cutting.{joined-spans}
 use Rattle.format.proofs.Track.HomeLocal.{home-window}
-use Rattle.format.proofs.Sector.ReadSector.{ReadAs, behindOpening, read-inv, span-least}
+use Rattle.format.proofs.Sector.ReadSector.{ReadAs, restOf, read-inv, span-least}
 use Rattle.format.proofs.Track.Pairs.{accepted-pair, lent-length}
 use Rattle.format.proofs.Sector.ReadsAs.{Reads, accepted-by, accepted-sectors, length-reads}
 
@@ -140,7 +140,7 @@ flagsOf ss = map (λ s. s .flag) ss
 read-alternation : (h : Home) (i : ℕ) (x : Settled) (last : Bool) (g : List ℕ) (s : Sector) → ReadAs h i x last g s → alternation (s .flag) ≡ i % 2
 unfolding countFieldsRight countFlagRight sequenceRight sectorIn
 read-alternation h i x last g s v =
-    let r : List ℕ = behindOpening i g in
+    let r : List ℕ = restOf i g in
     let f : ℕ = countFlag r in
     let q : countFlagRight (h .flag) i f ≡ true = and-both (countFlagRight (h .flag) i f) (countAddressRight h x (countAddress r)) (v .fields-right) .0 in
     let w : sequenceRight i f ≡ true = and-both (eqb (condition f) (condition (h .flag)) && eqb (spareBits f) 0) (sequenceRight i f) q .1 in

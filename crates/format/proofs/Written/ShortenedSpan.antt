@@ -18,12 +18,12 @@ use Rattle.format.proofs.Spans.Shape.{Shape}
 use Rattle.format.specs.Span.{cleanSpan}
 use Rattle.format.proofs.Cells.Opening.{unmarked-append, unmarked-take, unmarked-replicate, opens-front}
 use Rattle.format.proofs.Spans.Cutting.{later-unmarked, later-opening}
-use Rattle.format.proofs.Sector.ReadSector.{behindOpening, read-inv, read-length}
+use Rattle.format.proofs.Sector.ReadSector.{restOf, read-inv, read-length}
 use Rattle.format.proofs.Sector.ReadPrefix.{read-prefix}
 
 -- Where the block of the span g in position i ends, counted from the span's start.
 unfoldable pub blockPlace : ℕ → List ℕ → ℕ
-blockPlace i g = openingLength (isFirst i) + blockEnd (behindOpening i g)
+blockPlace i g = openingLength (isFirst i) + blockEnd (restOf i g)
 
 -- The span up to there, with m bytes of gap.
 unfoldable pub shortened : ℕ → List ℕ → ℕ → List ℕ
@@ -50,7 +50,7 @@ module _ (i : ℕ) (g : List ℕ) (m : ℕ) where
       let n : ℕ = blockPlace i g in
       let inside : n ≤ length g = omega (arith, place-in i g h x p last s e) in
       let whole : take n g ++ drop n g ≡ g = take-append-drop n g in
-      let ends : openingLength (isFirst i) + blockEnd (behindOpening i (take n g ++ drop n g)) ≡ n = ap (λ (z : List ℕ). openingLength (isFirst i) + blockEnd (behindOpening i z)) whole in
+      let ends : openingLength (isFirst i) + blockEnd (restOf i (take n g ++ drop n g)) ≡ n = ap (λ (z : List ℕ). openingLength (isFirst i) + blockEnd (restOf i z)) whole in
       read-prefix i (take n g) (drop n g) (replicate m 0xFF) h x p p last false s (rw whole e)
       (omega (arith, ends, length-take-le n g inside))
       (omega (arith, ends, length-shortened inside))
