@@ -22,7 +22,7 @@ use Rattle.format.proofs.Spans.Marks.{marks-clean}
 use Rattle.format.proofs.Track.Pairs.{drop-cells}
 use Rattle.format.proofs.Find.CandidateBytes.{span-rest-bytes}
 use Rattle.sectors.specs.SectorAt.{SectorAt, sectorFields, lastFirstCount, opensFirst, restAt, sectorAt}
-use Rattle.sectors.proofs.LaterSpans.{opens-low, opens-high}
+use Rattle.sectors.proofs.Rest.{opens-low, opens-high}
 use Rattle.accepting.specs.Accepting.{LaterSpans, NoStrayMark, numbersIn}
 use Rattle.accepting.proofs.AcceptSpans.{Front, front, no-span}
 use Rattle.accepting.proofs.AcceptFirst.{First, first-front}
