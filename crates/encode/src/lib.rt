@@ -8,11 +8,12 @@ ghost use Rattle.format.specs.Lent.{bytesOf, marksOf};
 ghost use Rattle.format.specs.Opening.{closing};
 ghost use Rattle.format.specs.Sector.{openingLength};
 ghost use Rattle.format.specs.Block.{keySize};
-ghost use Rattle.format.specs.Written.{dataSize, gapOne, innerGap, writtenBlock, writtenKey, writtenData, countOpening, writtenSector, sectorSize};
+ghost use Rattle.format.specs.Written.{dataSize, gapOne, gapBy, innerGap, writtenBlock, writtenKey, writtenData, countOpening, writtenSector, sectorSize};
 ghost use Rattle.format.specs.Blank.{writtenHead};
 ghost use Rattle.encode.specs.Laid.{laidOver, laidAt, laidIf, laidAtIf};
 ghost use Rattle.encode.specs.Room.{addressOf, sectorFrom, bothFit, sectorFits, gapFits};
 ghost use Rattle.encode.specs.Bytes.{countBytes};
+ghost use Rattle.encode.specs.Gap.{asRule};
 use format::layout::BLOCK_FRAME;
 use format::layout::CLOSING_BYTE;
 use format::layout::COUNT_TO_BLOCK;
@@ -27,11 +28,25 @@ use format::layout::MARKED_OPENING_MARKS;
 use format::layout::PLAIN;
 use format::layout::PLAIN_OPENING;
 
+// The rules by which the gap after a data block is written.
+pub enum GapRule {
+    One,
+}
+
 // The gap after a data block by rule one.
-pub fn gap_one(kl: u8, dl: u16) -> usize
+fn gap_one(kl: u8, dl: u16) -> usize
     ensures { λ r. ⌜ r ≡ gapOne kl dl ⌝ }
 {
     21 + (kl as usize + dl as usize) / 20
+}
+
+// The gap after a data block by a rule.
+pub fn gap_after(rule: GapRule, kl: u8, dl: u16) -> usize
+    ensures { λ r. ⌜ r ≡ gapBy (asRule rule) kl dl ⌝ }
+{
+    match rule {
+        GapRule::One => gap_one(kl, dl),
+    }
 }
 
 // The length of the opening of a count.

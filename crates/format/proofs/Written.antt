@@ -1,5 +1,6 @@
 -- First-written form: of sectors as spans, and of a blank track. Add and Correct write by these laws.
 pub mod Outcome
+pub mod Gap
 pub mod WrittenSpans
 pub mod ShortenedSpan
 pub mod OneBehind

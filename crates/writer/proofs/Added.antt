@@ -13,7 +13,7 @@ use Rattle.format.specs.Home.{Home}
 use Rattle.format.specs.Span.{joined}
 use Rattle.format.specs.Sector.{Sector, contentRight}
 use Rattle.format.specs.Accept.{Placed, acceptCells, endOf, fromNumber, lastOf}
-use Rattle.format.specs.Written.{gapOne, gapAfter, writtenSector, asPair, sectorSize}
+use Rattle.format.specs.Written.{GapRule, gapBy, gapAfter, writtenSector, asPair, sectorSize}
 use Rattle.format.specs.Add.{judgeAbsent, addedFlag, addedSector, addedTo, addCells}
 use Rattle.format.proofs.Track.Pairs.{pairOf, accepted-pair, length-bytes, length-marks}
 use Rattle.format.proofs.Track.Sectors.{list-suffices}
@@ -60,7 +60,7 @@ module _ (end to l : ℕ) (s : Sector) (h : end ≤ to) (room : to + length (wri
       ∙ append-assoc kept (marksOf z) (marksOf w) ∙ ap (λ (y : List ℕ). kept ++ y) (sym (marks-append z w))
 
 -- Add on an accepted track, by its tests in their order.
-module _ (t m : List ℕ) (start : ℕ) (r : Readable t m start) (b7 s : ℕ) (key body : List ℕ) where
+module _ (rule : GapRule) (t m : List ℕ) (start : ℕ) (r : Readable t m start) (b7 s : ℕ) (key body : List ℕ) where
   abbrev c : List ℕ
   c = cells t m
 
@@ -68,64 +68,64 @@ module _ (t m : List ℕ) (start : ℕ) (r : Readable t m start) (b7 s : ℕ) (k
   judged = accepted-pair t m (r .accepted) (r .is-accepted) .1
 
   -- 14 where B7 is no bit,
-  pub add-overflow : 1 < b7 → asPair (addCells gapOne c b7 s key body) ≡ refused wantedWrong
+  pub add-overflow : 1 < b7 → asPair (addCells (gapBy rule) c b7 s key body) ≡ refused wantedWrong
   unfolding addCells asPair
   add-overflow h = rw (judged, lt-leb b7 1 h)
 
   module _ (bit : b7 ≤ 1) where
     -- or the content is out of rule.
-    pub add-wanted : contentRight key body ≡ false → asPair (addCells gapOne c b7 s key body) ≡ refused wantedWrong
+    pub add-wanted : contentRight key body ≡ false → asPair (addCells (gapBy rule) c b7 s key body) ≡ refused wantedWrong
     unfolding addCells asPair
     add-wanted e = rw (judged, le-leb b7 1 bit, e)
 
     module _ (right : contentRight key body ≡ true) where
       -- 13 where a sector carries S.
       pub add-repeated : (x : Placed) (xs : List Placed) (q : ℕ) → fromNumber s (r .accepted .sectors) ≡ x ∷ xs → x .place ≡ q
-          → asPair (addCells gapOne c b7 s key body) ≡ refused (sectorRepeated q)
+          → asPair (addCells (gapBy rule) c b7 s key body) ≡ refused (sectorRepeated q)
       unfolding addCells judgeAbsent asPair
       add-repeated x xs q e at = rw (judged, le-leb b7 1 bit, right, e, at)
 
       -- What Add writes behind the sectors x and xs, the last of which ends at `end` and has the gap up to `to`.
       module _ (absent : fromNumber s (r .accepted .sectors) ≡ []) (x : Placed) (xs : List Placed) (all : r .accepted .sectors ≡ x ∷ xs) (end to : ℕ)
-          (end-is : end ≡ endOf (lastOf x xs)) (to-is : to ≡ end + gapAfter gapOne (lastOf x xs .sector)) (low : end ≤ length c) where
+          (end-is : end ≡ endOf (lastOf x xs)) (to-is : to ≡ end + gapAfter (gapBy rule) (lastOf x xs .sector)) (low : end ≤ length c) where
         -- The new sector.
         abbrev pub new : Sector
         new = addedSector (r .accepted .home) (suc (0 + length xs)) (lastOf x xs) b7 s key body
 
-        add-is : addCells gapOne c b7 s key body ≡ addedTo gapOne c (r .accepted .home) 0 b7 s key body (x ∷ xs)
+        add-is : addCells (gapBy rule) c b7 s key body ≡ addedTo (gapBy rule) c (r .accepted .home) 0 b7 s key body (x ∷ xs)
         unfolding addCells judgeAbsent
         add-is = rw (judged, le-leb b7 1 bit, right, absent, all)
 
-        need-is : addNeed gapOne (x ∷ xs) key body ≡ to + sectorSize false (length key) (length body) + 13
+        need-is : addNeed (gapBy rule) (x ∷ xs) key body ≡ to + sectorSize false (length key) (length body) + 13
         unfolding sectorSize
         need-is = omega (arith, end-is, to-is)
 
         -- 15 where its block would end later than 13 bytes before index.
-        pub add-short : length c < to + sectorSize false (length key) (length body) + 13 → asPair (addCells gapOne c b7 s key body) ≡ refused roomMissing
+        pub add-short : length c < to + sectorSize false (length key) (length body) + 13 → asPair (addCells (gapBy rule) c b7 s key body) ≡ refused roomMissing
         unfolding asPair
         add-short h =
-            ap asPair (add-is ∙ added-room gapOne c (r .accepted .home) 0 b7 s key body x xs (omega (arith, end-is)))
+            ap asPair (add-is ∙ added-room (gapBy rule) c (r .accepted .home) 0 b7 s key body x xs (omega (arith, end-is)))
             ∙ rw (need-is, lt-leb (to + sectorSize false (length key) (length body) + 13) (length c) h)
 
-        whole-is : keptCells gapOne c (x ∷ xs) ++ joined ((writtenSector new ++ replicate (length c - length (keptCells gapOne c (x ∷ xs)) - length (writtenSector new)) 0xFF) ∷ [])
+        whole-is : keptCells (gapBy rule) c (x ∷ xs) ++ joined ((writtenSector new ++ replicate (length c - length (keptCells (gapBy rule) c (x ∷ xs)) - length (writtenSector new)) 0xFF) ∷ [])
             ≡ take end c ++ (replicate (to - end) 0xFF ++ filledSpan (length c - to) new)
         unfolding filledSpan
         whole-is =
-            let k : length (keptCells gapOne c (x ∷ xs)) ≡ to = length-kept gapOne c (x ∷ xs) (omega (arith, end-is)) ∙ omega (arith, end-is, to-is) in
-            let g : gapAfter gapOne (lastOf x xs .sector) ≡ to - end = omega (arith, to-is) in
+            let k : length (keptCells (gapBy rule) c (x ∷ xs)) ≡ to = length-kept (gapBy rule) c (x ∷ xs) (omega (arith, end-is)) ∙ omega (arith, end-is, to-is) in
+            let g : gapAfter (gapBy rule) (lastOf x xs .sector) ≡ to - end = omega (arith, to-is) in
             let w : List ℕ = writtenSector new in
-            append-assoc (take (endOf (lastOf x xs)) c) (replicate (gapAfter gapOne (lastOf x xs .sector)) 0xFF) ((w ++ replicate (length c - length (keptCells gapOne c (x ∷ xs)) - length w) 0xFF) ++ [])
-            ∙ ap (λ (z : List ℕ). take (endOf (lastOf x xs)) c ++ (replicate (gapAfter gapOne (lastOf x xs .sector)) 0xFF ++ z))
-            (append-nil (w ++ replicate (length c - length (keptCells gapOne c (x ∷ xs)) - length w) 0xFF)
+            append-assoc (take (endOf (lastOf x xs)) c) (replicate (gapAfter (gapBy rule) (lastOf x xs .sector)) 0xFF) ((w ++ replicate (length c - length (keptCells (gapBy rule) c (x ∷ xs)) - length w) 0xFF) ++ [])
+            ∙ ap (λ (z : List ℕ). take (endOf (lastOf x xs)) c ++ (replicate (gapAfter (gapBy rule) (lastOf x xs .sector)) 0xFF ++ z))
+            (append-nil (w ++ replicate (length c - length (keptCells (gapBy rule) c (x ∷ xs)) - length w) 0xFF)
             ∙ ap (λ (n : ℕ). w ++ replicate (length c - n - length w) 0xFF) k)
             ∙ ap₂ (λ (i j : ℕ). take i c ++ (replicate j 0xFF ++ (w ++ replicate (length c - to - length w) 0xFF))) (sym end-is) g
 
         -- Else the new track.
         pub add-done : to + sectorSize false (length key) (length body) + 13 ≤ length c
-            → asPair (addCells gapOne c b7 s key body) ≡ good (pairOf (take end c ++ (replicate (to - end) 0xFF ++ filledSpan (length c - to) new)))
+            → asPair (addCells (gapBy rule) c b7 s key body) ≡ good (pairOf (take end c ++ (replicate (to - end) 0xFF ++ filledSpan (length c - to) new)))
         unfolding asPair
         add-done h =
-            ap asPair (add-is ∙ added-room gapOne c (r .accepted .home) 0 b7 s key body x xs (omega (arith, end-is)))
+            ap asPair (add-is ∙ added-room (gapBy rule) c (r .accepted .home) 0 b7 s key body x xs (omega (arith, end-is)))
             ∙ rw (need-is, le-leb (to + sectorSize false (length key) (length body) + 13) (length c) h) (ap (λ (z : List ℕ). good (pairOf z)) whole-is)
 
 -- All sectors of a readable track, of which there is at least one.
@@ -150,7 +150,7 @@ all-sectors t m start r =
     record { x = z .0; xs = z .1 .0; all = z .1 .1; steps = subst (SectorsFrom t m start) (z .1 .1) f }
 
 -- The last sector of a readable track: what was read of it, where it ends, and the position of a sector behind it.
-pub record LastRead (t m : List ℕ) (start : ℕ) (r : Readable t m start) (l : Last) : Type 0 where
+pub record LastRead (rule : GapRule) (t m : List ℕ) (start : ℕ) (r : Readable t m start) (l : Last) : Type 0 where
   pub x : Placed
   pub xs : List Placed
   pub all : r .accepted .sectors ≡ x ∷ xs
@@ -161,14 +161,14 @@ pub record LastRead (t m : List ℕ) (start : ℕ) (r : Readable t m start) (l :
   pub address-is : asAddress (l .sector .address) ≡ lastOf x xs .sector .address
   pub end-is : l .sector .end ≡ endOf (lastOf x xs)
   pub end-inside : l .sector .end + 13 ≤ length t
-  pub gap-is : gapOne (l .sector .«key_length») (l .sector .«data_length») ≡ gapAfter gapOne (lastOf x xs .sector)
+  pub gap-is : gapBy rule (l .sector .«key_length») (l .sector .«data_length») ≡ gapAfter (gapBy rule) (lastOf x xs .sector)
 
 -- What `last_of` gives is the last sector.
-pub last-read : (t m : List ℕ) (start : ℕ) (r : Readable t m start) (l : Last)
+pub last-read : (rule : GapRule) (t m : List ℕ) (start : ℕ) (r : Readable t m start) (l : Last)
     → ((x : Placed) (xs : List Placed) → SectorsFrom t m start (x ∷ xs) → SectorsFrom t m (l .place) (lastOf x xs ∷ []) × (l .position ≡ suc (length xs)))
-    → asSectorAt (l .sector) ≡ sectorAt (l .place) (cells t m) → LastRead t m start r l
+    → asSectorAt (l .sector) ≡ sectorAt (l .place) (cells t m) → LastRead rule t m start r l
 unfolding gapAfter
-last-read t m start r l g e =
+last-read rule t m start r l g e =
     let z = all-sectors t m start r in
     let h = g (z .x) (z .xs) (z .steps) in
     let v = h .0 .0 in
@@ -186,15 +186,15 @@ last-read t m start r l g e =
       address-is = ap (λ (w : SectorAt). w .address) e ∙ v .address-is;
       end-is = end;
       end-inside = omega (arith, end, v .end-inside, v .span-inside, readable-remaining t m start r .cells-length);
-      gap-is = ap₂ gapOne kl dl;
+      gap-is = ap₂ (gapBy rule) kl dl;
     }
 
 -- The sector that is written behind it.
-pub added-made : (t m : List ℕ) (start : ℕ) (r : Readable t m start) (l : Last) (v : LastRead t m start r l) (h : Home) (flag b7 s : ℕ) (key body : List ℕ)
+pub added-made : (rule : GapRule) (t m : List ℕ) (start : ℕ) (r : Readable t m start) (l : Last) (v : LastRead rule t m start r l) (h : Home) (flag b7 s : ℕ) (key body : List ℕ)
     → flag ≡ addedFlag (h .flag) (l .position) b7
     → sectorFrom false flag (l .sector .address .cylinder) (l .sector .address .head) s key body ≡ addedSector h (suc (0 + length (v .xs))) (lastOf (v .x) (v .xs)) b7 s key body
 unfolding addedSector
-added-made t m start r l v h flag b7 s key body e =
+added-made rule t m start r l v h flag b7 s key body e =
     let at : l .position ≡ suc (0 + length (v .xs)) = omega (arith, v .position-is) in
     let fl : flag ≡ addedFlag (h .flag) (suc (0 + length (v .xs))) b7 = e ∙ ap (λ (i : ℕ). addedFlag (h .flag) i b7) at in
     λ j. record { first = false; flag = fl j; address = v .address-is j; number = s; keyBytes = key; dataBytes = body }

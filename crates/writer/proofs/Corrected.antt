@@ -15,7 +15,7 @@ use Rattle.format.specs.Block.{leastGap}
 use Rattle.format.specs.Span.{none}
 use Rattle.format.specs.Sector.{Sector, contentRight}
 use Rattle.format.specs.Accept.{Placed, acceptCells, fromNumber, sectorsOf}
-use Rattle.format.specs.Written.{gapOne, gapAfter, writtenSector, reach, writtenBehind, asPair, sectorSize}
+use Rattle.format.specs.Written.{GapRule, gapBy, gapAfter, writtenSector, reach, writtenBehind, asPair, sectorSize}
 use Rattle.format.specs.Correct.{withContent, rewrittenFrom, correctCells}
 use Rattle.base.proofs.Lists.{take-map}
 use Rattle.format.proofs.Track.Pairs.{pairOf, accepted-pair, bytes-cells, marks-cells}
@@ -132,7 +132,7 @@ module _ (t m : List ℕ) (q : ℕ) (x : Placed) (xs : List Placed) (f : Sectors
       subst (λ (p : ℕ). SectorsFrom t m p xs) (sym n) (f .1)
 
   -- `first` says that it is sector 0, and it gets a new key and data.
-  module _ (first : Bool) (place : first ≡ opensFirst q) (key body : List ℕ) where
+  module _ (rule : GapRule) (first : Bool) (place : first ≡ opensFirst q) (key body : List ℕ) where
     abbrev new : Sector
     new = withContent key body (x .sector)
 
@@ -142,16 +142,16 @@ module _ (t m : List ℕ) (q : ℕ) (x : Placed) (xs : List Placed) (f : Sectors
     size-new = length-written new ∙ ap (λ (b : Bool). sectorSize b (length key) (length body)) (f .0 .first-is ∙ sym place)
 
     -- And its gap.
-    pub gap-new : gapAfter gapOne new ≡ gapOne (length key) (length body)
+    pub gap-new : gapAfter (gapBy rule) new ≡ gapBy rule (length key) (length body)
     unfolding gapAfter withContent
     gap-new = refl
 
     -- The end, summed from its own block on.
-    pub end-new : (end gap r : ℕ) → end ≡ q + sectorSize first (length key) (length body) → gap ≡ gapOne (length key) (length body)
-        → r ≡ farthest end gap xs → r ≡ correctedEnd q key body x xs
+    pub end-new : (end gap r : ℕ) → end ≡ q + sectorSize first (length key) (length body) → gap ≡ gapBy rule (length key) (length body)
+        → r ≡ farthest rule end gap xs → r ≡ correctedEnd rule q key body x xs
     unfolding correctedEnd
     end-new end gap r n g k =
-        k ∙ ap₂ (λ (i j : ℕ). farthest i j xs) (n ∙ ap (λ (i : ℕ). q + i) (sym size-new)) (g ∙ sym gap-new) ∙ sym (farthest-from q new xs)
+        k ∙ ap₂ (λ (i j : ℕ). farthest rule i j xs) (n ∙ ap (λ (i : ℕ). q + i) (sym size-new)) (g ∙ sym gap-new) ∙ sym (farthest-from rule q new xs)
 
     -- The sector that is written.
     pub content-made : sectorFrom first (s .flag) (s .address .cylinder) (s .address .head) (s .number) key body ≡ new
@@ -170,39 +170,39 @@ module _ (t m : List ℕ) (q : ℕ) (x : Placed) (xs : List Placed) (f : Sectors
           dataBytes = body;
         }
 
-    module _ (l to : ℕ) (g : to ≡ pick (s .last) l (q + sectorSize first (length key) (length body) + gapOne (length key) (length body)))
-        (room : correctedEnd q key body x xs ≤ l) where
-      end-made : to ≡ spanEnd l q new (sectorsOf xs)
+    module _ (l to : ℕ) (g : to ≡ pick (s .last) l (q + sectorSize first (length key) (length body) + gapBy rule (length key) (length body)))
+        (room : correctedEnd rule q key body x xs ≤ l) where
+      end-made : to ≡ spanEnd rule l q new (sectorsOf xs)
       end-made =
           let last : s .last ≡ none (sectorsOf xs) = ap (λ (z : SectorAt). z .last) e ∙ f .0 .last-is ∙ none-sectors xs in
-          g ∙ ap (λ (b : Bool). pick b l (q + sectorSize first (length key) (length body) + gapOne (length key) (length body))) last
+          g ∙ ap (λ (b : Bool). pick b l (q + sectorSize first (length key) (length body) + gapBy rule (length key) (length body))) last
           ∙ ap₂ (λ (i j : ℕ). pick (none (sectorsOf xs)) l (q + i + j)) (sym size-new) (sym gap-new)
 
-      split : (q + length (writtenSector new) ≤ to) × (to ≤ l) × RoomFor l to xs
+      split : (q + length (writtenSector new) ≤ to) × (to ≤ l) × RoomFor rule l to xs
       unfolding correctedEnd
-      split = room-split l q to new xs end-made room
+      split = room-split rule l q to new xs end-made room
 
       -- There is room for the sector and those behind it.
-      pub content-room : (q + sectorSize first (length key) (length body) ≤ to) × (to ≤ l) × RoomFor l to xs
+      pub content-room : (q + sectorSize first (length key) (length body) ≤ to) × (to ≤ l) × RoomFor rule l to xs
       content-room = (omega (arith, split .0, size-new), split .1, split .2)
 
       module _ (old one two last kept : List ℕ) (ql : q ≤ length old) (qk : length kept ≡ q) (over : last ≡ laidOver kept two) where
         -- The bytes of the new track: the sector, those behind it, and the kept ones over what stood before it.
         pub content-bytes : one ≡ laidAt q (bytesOf (filledSpan (to - q) (sectorFrom first (s .flag) (s .address .cylinder) (s .address .head) (s .number) key body))) old
-            → two ≡ take to one ++ bytesOf (laterCells (l - to) xs) → last ≡ kept ++ bytesOf (correctedCells l q key body x xs)
+            → two ≡ take to one ++ bytesOf (laterCells rule (l - to) xs) → last ≡ kept ++ bytesOf (correctedCells rule l q key body x xs)
         unfolding correctedCells
         content-bytes n z =
             over-front q kept old two last _ ql qk over
-            (z ∙ bytes-more l q to new (sectorsOf xs) end-made (split .0) old one _ ql
+            (z ∙ bytes-more rule l q to new (sectorsOf xs) end-made (split .0) old one _ ql
             (n ∙ ap (λ (w : Sector). laidAt q (bytesOf (filledSpan (to - q) w)) old) content-made) refl)
 
         -- And the marks.
         pub content-marks : one ≡ laidAt q (marksOf (filledSpan (to - q) (sectorFrom first (s .flag) (s .address .cylinder) (s .address .head) (s .number) key body))) old
-            → two ≡ take to one ++ marksOf (laterCells (l - to) xs) → last ≡ kept ++ marksOf (correctedCells l q key body x xs)
+            → two ≡ take to one ++ marksOf (laterCells rule (l - to) xs) → last ≡ kept ++ marksOf (correctedCells rule l q key body x xs)
         unfolding correctedCells
         content-marks n z =
             over-front q kept old two last _ ql qk over
-            (z ∙ marks-more l q to new (sectorsOf xs) end-made (split .0) old one _ ql
+            (z ∙ marks-more rule l q to new (sectorsOf xs) end-made (split .0) old one _ ql
             (n ∙ ap (λ (w : Sector). laidAt q (marksOf (filledSpan (to - q) w)) old) content-made) refl)
 
 -- A front that is kept and cells behind it, as bytes.
@@ -216,7 +216,7 @@ kept-marks q t m W X M e u z h =
     h ∙ ap₂ (λ (a b : List ℕ). a ++ marksOf b) (sym (marks-front q t m e u)) z ∙ sym (marks-append (take q (cells t m)) X)
 
 -- Correct on an accepted track, by its tests in their order.
-module _ (t m : List ℕ) (start : ℕ) (r : Readable t m start) (s : ℕ) (key body : List ℕ) where
+module _ (rule : GapRule) (t m : List ℕ) (start : ℕ) (r : Readable t m start) (s : ℕ) (key body : List ℕ) where
   abbrev c : List ℕ
   c = cells t m
 
@@ -224,30 +224,30 @@ module _ (t m : List ℕ) (start : ℕ) (r : Readable t m start) (s : ℕ) (key 
   judged = accepted-pair t m (r .accepted) (r .is-accepted) .1
 
   -- 14 where a wanted field is out of rule.
-  pub correct-wanted : contentRight key body ≡ false → asPair (correctCells gapOne c s key body) ≡ refused wantedWrong
+  pub correct-wanted : contentRight key body ≡ false → asPair (correctCells (gapBy rule) c s key body) ≡ refused wantedWrong
   unfolding correctCells asPair
   correct-wanted e = rw (judged, e)
 
   module _ (right : contentRight key body ≡ true) where
     -- 12 where no sector carries S.
-    pub correct-missing : fromNumber s (r .accepted .sectors) ≡ [] → asPair (correctCells gapOne c s key body) ≡ refused sectorMissing
+    pub correct-missing : fromNumber s (r .accepted .sectors) ≡ [] → asPair (correctCells (gapBy rule) c s key body) ≡ refused sectorMissing
     unfolding correctCells rewrittenFrom asPair
     correct-missing e = rw (judged, right, e)
 
     module _ (x : Placed) (xs : List Placed) (e : fromNumber s (r .accepted .sectors) ≡ x ∷ xs) (q : ℕ) (at : x .place ≡ q) (within : q ≤ length c) where
-      need : length (take (x .place) c) + reach gapOne (withContent key body (x .sector) ∷ sectorsOf xs) + 13 ≡ correctedEnd q key body x xs + 13
+      need : length (take (x .place) c) + reach (gapBy rule) (withContent key body (x .sector) ∷ sectorsOf xs) + 13 ≡ correctedEnd rule q key body x xs + 13
       unfolding correctedEnd
-      need = ap (λ (n : ℕ). n + reach gapOne (withContent key body (x .sector) ∷ sectorsOf xs) + 13) (length-take-le (x .place) c (omega arith) ∙ at)
+      need = ap (λ (n : ℕ). n + reach (gapBy rule) (withContent key body (x .sector) ∷ sectorsOf xs) + 13) (length-take-le (x .place) c (omega arith) ∙ at)
 
       -- 15 where the last block would end later than 13 bytes before index.
-      pub correct-short : length c < correctedEnd q key body x xs + 13 → asPair (correctCells gapOne c s key body) ≡ refused roomMissing
+      pub correct-short : length c < correctedEnd rule q key body x xs + 13 → asPair (correctCells (gapBy rule) c s key body) ≡ refused roomMissing
       unfolding correctCells rewrittenFrom writtenBehind leastGap asPair
-      correct-short h = rw (judged, right, e, need, lt-leb (correctedEnd q key body x xs + 13) (length c) h)
+      correct-short h = rw (judged, right, e, need, lt-leb (correctedEnd rule q key body x xs + 13) (length c) h)
 
       -- Else the new track.
-      pub correct-done : correctedEnd q key body x xs + 13 ≤ length c
-          → asPair (correctCells gapOne c s key body) ≡ good (pairOf (take q c ++ correctedCells (length c) q key body x xs))
+      pub correct-done : correctedEnd rule q key body x xs + 13 ≤ length c
+          → asPair (correctCells (gapBy rule) c s key body) ≡ good (pairOf (take q c ++ correctedCells rule (length c) q key body x xs))
       unfolding correctCells rewrittenFrom writtenBehind leastGap asPair correctedCells
       correct-done h =
           let z : length (take q c) ≡ q = length-take-le q c within in
-          rw (judged, right, e, need, le-leb (correctedEnd q key body x xs + 13) (length c) h, at, z)
+          rw (judged, right, e, need, le-leb (correctedEnd rule q key body x xs + 13) (length c) h, at, z)

@@ -11,7 +11,7 @@ use Rattle.format.specs.Lent.{cells, bytesOf, marksOf}
 use Rattle.format.specs.Span.{joined, none}
 use Rattle.format.specs.Sector.{Sector}
 use Rattle.format.specs.Accept.{Placed, sectorsOf}
-use Rattle.format.specs.Written.{gapOne, gapAfter, writtenSector, reach, writtenSpans, sectorSize}
+use Rattle.format.specs.Written.{GapRule, gapBy, gapAfter, writtenSector, reach, writtenSpans, sectorSize}
 use Rattle.format.proofs.Track.Pairs.{length-bytes, length-marks}
 use Rattle.encode.specs.Laid.{laidAt}
 use Rattle.encode.specs.Room.{sectorFrom}
@@ -27,19 +27,19 @@ use Rattle.writer.proofs.Filled.{filled-length, take-laid}
 use Rattle.writer.proofs.Farthest.{size-stepped, gap-stepped}
 
 -- The place up to which a sector written at place `at` and its gap reach, where the sectors ss follow.
-abbrev pub spanEnd : ℕ → ℕ → Sector → List Sector → ℕ
-spanEnd l at s ss = pick (none ss) l (at + length (writtenSector s) + gapAfter gapOne s)
+abbrev pub spanEnd : GapRule → ℕ → ℕ → Sector → List Sector → ℕ
+spanEnd rule l at s ss = pick (none ss) l (at + length (writtenSector s) + gapAfter (gapBy rule) s)
 
 -- The first of the written sectors by itself.
-pub later-split : (l at to : ℕ) (s : Sector) (ss : List Sector) → to ≡ spanEnd l at s ss
-    → joined (writtenSpans gapOne (l - at) (s ∷ ss)) ≡ filledSpan (to - at) s ++ joined (writtenSpans gapOne (l - to) ss)
+pub later-split : (rule : GapRule) (l at to : ℕ) (s : Sector) (ss : List Sector) → to ≡ spanEnd rule l at s ss
+    → joined (writtenSpans (gapBy rule) (l - at) (s ∷ ss)) ≡ filledSpan (to - at) s ++ joined (writtenSpans (gapBy rule) (l - to) ss)
 unfolding writtenSpans filledSpan
-later-split l at to s [] e = ap (λ (k : ℕ). (writtenSector s ++ replicate (k - at - length (writtenSector s)) 0xFF) ++ []) (sym e)
-later-split l at to s (r ∷ rs) e =
+later-split rule l at to s [] e = ap (λ (k : ℕ). (writtenSector s ++ replicate (k - at - length (writtenSector s)) 0xFF) ++ []) (sym e)
+later-split rule l at to s (r ∷ rs) e =
     let w : List ℕ = writtenSector s in
-    let g : gapAfter gapOne s ≡ to - at - length w = omega arith in
-    let n : l - at - (length w + gapAfter gapOne s) ≡ l - to = omega arith in
-    ap₂ (λ (i j : ℕ). (w ++ replicate i 0xFF) ++ joined (writtenSpans gapOne j (r ∷ rs))) g n
+    let g : gapAfter (gapBy rule) s ≡ to - at - length w = omega arith in
+    let n : l - at - (length w + gapAfter (gapBy rule) s) ≡ l - to = omega arith in
+    ap₂ (λ (i j : ℕ). (w ++ replicate i 0xFF) ++ joined (writtenSpans (gapBy rule) j (r ∷ rs))) g n
 
 -- No sectors are left where no placed ones are.
 pub none-sectors : (xs : List Placed) → none xs ≡ none (sectorsOf xs)
@@ -47,51 +47,51 @@ none-sectors [] = refl
 none-sectors (x ∷ xs) = refl
 
 -- What room for a sector and those behind it says.
-pub room-split : (l at to : ℕ) (s : Sector) (xs : List Placed) → to ≡ spanEnd l at s (sectorsOf xs) → at + reach gapOne (s ∷ sectorsOf xs) ≤ l
-    → (at + length (writtenSector s) ≤ to) × (to ≤ l) × RoomFor l to xs
+pub room-split : (rule : GapRule) (l at to : ℕ) (s : Sector) (xs : List Placed) → to ≡ spanEnd rule l at s (sectorsOf xs) → at + reach (gapBy rule) (s ∷ sectorsOf xs) ≤ l
+    → (at + length (writtenSector s) ≤ to) × (to ≤ l) × RoomFor rule l to xs
 unfolding reach
-room-split l at to s [] e h = (omega arith, omega arith, e)
-room-split l at to s (y ∷ ys) e h = (omega arith, omega arith, omega arith)
+room-split rule l at to s [] e h = (omega arith, omega arith, e)
+room-split rule l at to s (y ∷ ys) e h = (omega arith, omega arith, omega arith)
 
 -- With room, a place lies on the track.
-pub room-within : (l at : ℕ) (xs : List Placed) → RoomFor l at xs → at ≤ l
-room-within l at [] h = omega arith
-room-within l at (x ∷ xs) h = omega arith
+pub room-within : (rule : GapRule) (l at : ℕ) (xs : List Placed) → RoomFor rule l at xs → at ≤ l
+room-within rule l at [] h = omega arith
+room-within rule l at (x ∷ xs) h = omega arith
 
 -- A buffer that is written up to place `at`, where the rest of the track is F.
-module _ (l at to : ℕ) (s : Sector) (ss : List Sector) (e : to ≡ spanEnd l at s ss) (long : at + length (writtenSector s) ≤ to) (old new F : List ℕ) (fits : at ≤ length old) where
+module _ (rule : GapRule) (l at to : ℕ) (s : Sector) (ss : List Sector) (e : to ≡ spanEnd rule l at s ss) (long : at + length (writtenSector s) ≤ to) (old new F : List ℕ) (fits : at ≤ length old) where
   -- One sector more, in bytes.
-  pub bytes-more : new ≡ laidAt at (bytesOf (filledSpan (to - at) s)) old → take at old ++ bytesOf (joined (writtenSpans gapOne (l - at) (s ∷ ss))) ≡ F
-      → take to new ++ bytesOf (joined (writtenSpans gapOne (l - to) ss)) ≡ F
+  pub bytes-more : new ≡ laidAt at (bytesOf (filledSpan (to - at) s)) old → take at old ++ bytesOf (joined (writtenSpans (gapBy rule) (l - at) (s ∷ ss))) ≡ F
+      → take to new ++ bytesOf (joined (writtenSpans (gapBy rule) (l - to) ss)) ≡ F
   bytes-more q f =
       let w : List ℕ = filledSpan (to - at) s in
-      let rest : List ℕ = joined (writtenSpans gapOne (l - to) ss) in
+      let rest : List ℕ = joined (writtenSpans (gapBy rule) (l - to) ss) in
       let n : to ≡ at + length (bytesOf w) = omega (arith, length-bytes w, filled-length (to - at) s (omega arith)) in
       ap (λ (z : List ℕ). z ++ bytesOf rest) (ap (take to) q ∙ take-laid at to (bytesOf w) old fits n)
       ∙ append-assoc (take at old) (bytesOf w) (bytesOf rest)
-      ∙ ap (λ (z : List ℕ). take at old ++ z) (sym (bytes-append w rest) ∙ ap bytesOf (sym (later-split l at to s ss e)))
+      ∙ ap (λ (z : List ℕ). take at old ++ z) (sym (bytes-append w rest) ∙ ap bytesOf (sym (later-split rule l at to s ss e)))
       ∙ f
 
   -- In marks.
-  pub marks-more : new ≡ laidAt at (marksOf (filledSpan (to - at) s)) old → take at old ++ marksOf (joined (writtenSpans gapOne (l - at) (s ∷ ss))) ≡ F
-      → take to new ++ marksOf (joined (writtenSpans gapOne (l - to) ss)) ≡ F
+  pub marks-more : new ≡ laidAt at (marksOf (filledSpan (to - at) s)) old → take at old ++ marksOf (joined (writtenSpans (gapBy rule) (l - at) (s ∷ ss))) ≡ F
+      → take to new ++ marksOf (joined (writtenSpans (gapBy rule) (l - to) ss)) ≡ F
   marks-more q f =
       let w : List ℕ = filledSpan (to - at) s in
-      let rest : List ℕ = joined (writtenSpans gapOne (l - to) ss) in
+      let rest : List ℕ = joined (writtenSpans (gapBy rule) (l - to) ss) in
       let n : to ≡ at + length (marksOf w) = omega (arith, length-marks w, filled-length (to - at) s (omega arith)) in
       ap (λ (z : List ℕ). z ++ marksOf rest) (ap (take to) q ∙ take-laid at to (marksOf w) old fits n)
       ∙ append-assoc (take at old) (marksOf w) (marksOf rest)
-      ∙ ap (λ (z : List ℕ). take at old ++ z) (sym (marks-append w rest) ∙ ap marksOf (sym (later-split l at to s ss e)))
+      ∙ ap (λ (z : List ℕ). take at old ++ z) (sym (marks-append w rest) ∙ ap marksOf (sym (later-split rule l at to s ss e)))
       ∙ f
 
 -- The sectors from place p of the old track on are to be written from place `at` of the new one on, whose bytes are F in the end and its marks G.
-pub record Going (t m : List ℕ) (p at : ℕ) (nt nm F G : List ℕ) : Type 0 where
+pub record Going (rule : GapRule) (t m : List ℕ) (p at : ℕ) (nt nm F G : List ℕ) : Type 0 where
   pub remaining : List Placed
   pub steps : SectorsFrom t m p remaining
   pub behind : lastFirstCount < p
-  pub room : RoomFor (length t) at remaining
-  pub bytes : take at nt ++ bytesOf (laterCells (length t - at) remaining) ≡ F
-  pub marks : take at nm ++ marksOf (laterCells (length t - at) remaining) ≡ G
+  pub room : RoomFor rule (length t) at remaining
+  pub bytes : take at nt ++ bytesOf (laterCells rule (length t - at) remaining) ≡ F
+  pub marks : take at nm ++ marksOf (laterCells rule (length t - at) remaining) ≡ G
 
 -- A written sector is the one that was stepped over.
 pub sector-made : (t m : List ℕ) (p : ℕ) (first : Bool) → opensFirst p ≡ first → (xs : List Placed) (s : SectorCode) (v : Step t m p xs s) (key body : List ℕ)
@@ -109,24 +109,24 @@ sector-made t m p first place xs s v key body k d =
     }
 
 -- It starts so, where there is room for the sectors xs.
-pub going-start : (t m : List ℕ) (p at : ℕ) (nt nm : List ℕ) (xs : List Placed) → SectorsFrom t m p xs → lastFirstCount < p → RoomFor (length t) at xs
-    → Going t m p at nt nm (take at nt ++ bytesOf (laterCells (length t - at) xs)) (take at nm ++ marksOf (laterCells (length t - at) xs))
-going-start t m p at nt nm xs s b r = record { remaining = xs; steps = s; behind = b; room = r; bytes = refl; marks = refl }
+pub going-start : (rule : GapRule) (t m : List ℕ) (p at : ℕ) (nt nm : List ℕ) (xs : List Placed) → SectorsFrom t m p xs → lastFirstCount < p → RoomFor rule (length t) at xs
+    → Going rule t m p at nt nm (take at nt ++ bytesOf (laterCells rule (length t - at) xs)) (take at nm ++ marksOf (laterCells rule (length t - at) xs))
+going-start rule t m p at nt nm xs s b r = record { remaining = xs; steps = s; behind = b; room = r; bytes = refl; marks = refl }
 
-module _ (t m : List ℕ) (p at : ℕ) (nt nm F G : List ℕ) (i : Going t m p at nt nm F G) (whole : length (cells t m) ≡ length t) where
+module _ (rule : GapRule) (t m : List ℕ) (p at : ℕ) (nt nm F G : List ℕ) (i : Going rule t m p at nt nm F G) (whole : length (cells t m) ≡ length t) where
   -- The place lies on the new track.
   pub going-within : at ≤ length t
-  going-within = room-within (length t) at (i .remaining) (i .room)
+  going-within = room-within rule (length t) at (i .remaining) (i .room)
 
   -- At the end of the old track the new one is whole.
   pub going-end : length t ≤ p → length nt ≡ length t → length nm ≡ length t → (nt ≡ F) × (nm ≡ G)
   unfolding writtenSpans bytesOf marksOf
   going-end l nt-long nm-long =
       let z : i .remaining ≡ [] = steps-end t m p (i .remaining) (i .steps) (omega (arith, whole)) in
-      let end : at ≡ length t = subst (RoomFor (length t) at) z (i .room) in
+      let end : at ≡ length t = subst (RoomFor rule (length t) at) z (i .room) in
       let all : (ns : List ℕ) → length ns ≡ length t → take at ns ≡ ns = λ ns k. ap (λ (n : ℕ). take n ns) (end ∙ sym k) ∙ take-length ns in (
-        sym (all nt nt-long) ∙ sym (append-nil (take at nt)) ∙ ap (λ (xs : List Placed). take at nt ++ bytesOf (laterCells (length t - at) xs)) (sym z) ∙ i .bytes,
-        sym (all nm nm-long) ∙ sym (append-nil (take at nm)) ∙ ap (λ (xs : List Placed). take at nm ++ marksOf (laterCells (length t - at) xs)) (sym z) ∙ i .marks,
+        sym (all nt nt-long) ∙ sym (append-nil (take at nt)) ∙ ap (λ (xs : List Placed). take at nt ++ bytesOf (laterCells rule (length t - at) xs)) (sym z) ∙ i .bytes,
+        sym (all nm nm-long) ∙ sym (append-nil (take at nm)) ∙ ap (λ (xs : List Placed). take at nm ++ marksOf (laterCells rule (length t - at) xs)) (sym z) ∙ i .marks,
       )
 
   module _ (l : p < length t) (x : SectorCode) (e : asSectorAt x ≡ sectorAt p (cells t m)) where
@@ -148,23 +148,23 @@ module _ (t m : List ℕ) (p at : ℕ) (nt nm F G : List ℕ) (i : Going t m p a
     pub going-onward : (p + 49 ≤ x .next) × (x .next ≤ length t)
     going-onward = let v = going-step in (v .onward, omega (arith, v .next-inside, whole))
 
-    module _ (to : ℕ) (f : to ≡ pick (x .last) (length t) (at + sectorSize false (x .«key_length») (x .«data_length») + gapOne (x .«key_length») (x .«data_length»))) where
-      end-made : to ≡ spanEnd (length t) at (going-step .x .sector) (sectorsOf (going-step .later))
+    module _ (to : ℕ) (f : to ≡ pick (x .last) (length t) (at + sectorSize false (x .«key_length») (x .«data_length») + gapBy rule (x .«key_length») (x .«data_length»))) where
+      end-made : to ≡ spanEnd rule (length t) at (going-step .x .sector) (sectorsOf (going-step .later))
       end-made =
           let v = going-step in
-          let size = size-stepped t m p false (opens-high p (i .behind)) (i .remaining) x v in
-          let gap = gap-stepped t m p false (opens-high p (i .behind)) (i .remaining) x v in
-          f ∙ ap (λ (b : Bool). pick b (length t) (at + sectorSize false (x .«key_length») (x .«data_length») + gapOne (x .«key_length») (x .«data_length»))) (v .last-is ∙ none-sectors (v .later))
+          let size = size-stepped rule t m p false (opens-high p (i .behind)) (i .remaining) x v in
+          let gap = gap-stepped rule t m p false (opens-high p (i .behind)) (i .remaining) x v in
+          f ∙ ap (λ (b : Bool). pick b (length t) (at + sectorSize false (x .«key_length») (x .«data_length») + gapBy rule (x .«key_length») (x .«data_length»))) (v .last-is ∙ none-sectors (v .later))
           ∙ ap₂ (λ (n g : ℕ). pick (none (sectorsOf (v .later))) (length t) (at + n + g)) (sym size) (sym gap)
 
-      split-room : (at + length (writtenSector (going-step .x .sector)) ≤ to) × (to ≤ length t) × RoomFor (length t) to (going-step .later)
+      split-room : (at + length (writtenSector (going-step .x .sector)) ≤ to) × (to ≤ length t) × RoomFor rule (length t) to (going-step .later)
       split-room =
           let v = going-step in
-          room-split (length t) at to (v .x .sector) (v .later) end-made (subst (RoomFor (length t) at) (v .split) (i .room))
+          room-split rule (length t) at to (v .x .sector) (v .later) end-made (subst (RoomFor rule (length t) at) (v .split) (i .room))
 
       -- There is room for the sector.
       pub going-room : (at + sectorSize false (x .«key_length») (x .«data_length») ≤ to) × (to ≤ length t)
-      going-room = let r = split-room in (omega (arith, r .0, size-stepped t m p false (opens-high p (i .behind)) (i .remaining) x going-step), r .1)
+      going-room = let r = split-room in (omega (arith, r .0, size-stepped rule t m p false (opens-high p (i .behind)) (i .remaining) x going-step), r .1)
 
       -- The sector is written.
       pub going-next : (key body nt' nm' : List ℕ)
@@ -172,7 +172,7 @@ module _ (t m : List ℕ) (p at : ℕ) (nt nm F G : List ℕ) (i : Going t m p a
           → length nt ≡ length t → length nm ≡ length t
           → nt' ≡ laidAt at (bytesOf (filledSpan (to - at) (sectorFrom false (x .flag) (x .address .cylinder) (x .address .head) (x .number) key body))) nt
           → nm' ≡ laidAt at (marksOf (filledSpan (to - at) (sectorFrom false (x .flag) (x .address .cylinder) (x .address .head) (x .number) key body))) nm
-          → Going t m (x .next) to nt' nm' F G
+          → Going rule t m (x .next) to nt' nm' F G
       going-next key body nt' nm' k d nt-long nm-long qt qm =
           let v = going-step in
           let r = split-room in
@@ -186,13 +186,13 @@ module _ (t m : List ℕ) (p at : ℕ) (nt nm F G : List ℕ) (i : Going t m p a
             behind = v .rest-behind;
             room = r .2;
             bytes =
-                bytes-more (length t) at to (v .x .sector) ss end-made (r .0) nt nt' F (omega arith)
+                bytes-more rule (length t) at to (v .x .sector) ss end-made (r .0) nt nt' F (omega arith)
                 (qt ∙ ap (λ (z : Sector). laidAt at (bytesOf (filledSpan (to - at) z)) nt) s)
-                (ap (λ (xs : List Placed). take at nt ++ bytesOf (laterCells (length t - at) xs)) (sym (v .split)) ∙ i .bytes);
+                (ap (λ (xs : List Placed). take at nt ++ bytesOf (laterCells rule (length t - at) xs)) (sym (v .split)) ∙ i .bytes);
             marks =
-                marks-more (length t) at to (v .x .sector) ss end-made (r .0) nm nm' G (omega arith)
+                marks-more rule (length t) at to (v .x .sector) ss end-made (r .0) nm nm' G (omega arith)
                 (qm ∙ ap (λ (z : Sector). laidAt at (marksOf (filledSpan (to - at) z)) nm) s)
-                (ap (λ (xs : List Placed). take at nm ++ marksOf (laterCells (length t - at) xs)) (sym (v .split)) ∙ i .marks);
+                (ap (λ (xs : List Placed). take at nm ++ marksOf (laterCells rule (length t - at) xs)) (sym (v .split)) ∙ i .marks);
           }
 
 -- The n bytes that are lent from place a on.
@@ -204,14 +204,14 @@ pub cut-length : (a n : ℕ) (s : List ℕ) → a + n ≤ length s → length (t
 cut-length a n s h = ap length (cut-is a n s) ∙ length-take-le n (drop a s) (omega (arith, length-drop a s))
 
 -- The writing has come from the places p and `at` to the places p' and `at'`.
-abbrev pub Writing : List ℕ → List ℕ → ℕ → ℕ → List ℕ → List ℕ → ℕ → ℕ → List ℕ → List ℕ → Type 0
-Writing t m p at nt nm p' at' nt' nm' =
-    (length nt' ≡ length t) × (length nm' ≡ length t) × ((F G : List ℕ) → Going t m p at nt nm F G → Going t m p' at' nt' nm' F G)
+abbrev pub Writing : GapRule → List ℕ → List ℕ → ℕ → ℕ → List ℕ → List ℕ → ℕ → ℕ → List ℕ → List ℕ → Type 0
+Writing rule t m p at nt nm p' at' nt' nm' =
+    (length nt' ≡ length t) × (length nm' ≡ length t) × ((F G : List ℕ) → Going rule t m p at nt nm F G → Going rule t m p' at' nt' nm' F G)
 
 -- What is to be written then.
-pub writing-now : (t m : List ℕ) (p at : ℕ) (nt nm : List ℕ) (p' at' : ℕ) (nt' nm' : List ℕ) (u : RemainingRoom t m p at) → Writing t m p at nt nm p' at' nt' nm'
-    → Going t m p' at' nt' nm' (take at nt ++ bytesOf (laterCells (length t - at) (u .remaining .sectors))) (take at nm ++ marksOf (laterCells (length t - at) (u .remaining .sectors)))
-writing-now t m p at nt nm p' at' nt' nm' u w = w .2 _ _ (going-start t m p at nt nm (u .remaining .sectors) (u .remaining .steps) (u .behind) (u .room))
+pub writing-now : (rule : GapRule) (t m : List ℕ) (p at : ℕ) (nt nm : List ℕ) (p' at' : ℕ) (nt' nm' : List ℕ) (u : RemainingRoom rule t m p at) → Writing rule t m p at nt nm p' at' nt' nm'
+    → Going rule t m p' at' nt' nm' (take at nt ++ bytesOf (laterCells rule (length t - at) (u .remaining .sectors))) (take at nm ++ marksOf (laterCells rule (length t - at) (u .remaining .sectors)))
+writing-now rule t m p at nt nm p' at' nt' nm' u w = w .2 _ _ (going-start rule t m p at nt nm (u .remaining .sectors) (u .remaining .steps) (u .behind) (u .room))
 
 -- Such a key and such data ask for the room that their numbers do.
 pub cut-asks : (b : Bool) (at to kl dl l : ℕ) (key body nt nm : List ℕ) → length key ≡ kl → length body ≡ dl → (kl ≤ 255) × (dl ≤ 65535)

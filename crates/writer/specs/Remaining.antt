@@ -9,7 +9,7 @@ use Rattle.format.specs.Lent.{cells}
 use Rattle.format.specs.Home.{firstCountPlace}
 use Rattle.format.specs.Span.{joined, none}
 use Rattle.format.specs.Accept.{Placed, Accepted, accept, fromNumber, sectorsOf}
-use Rattle.format.specs.Written.{gapOne, reach, writtenSpans}
+use Rattle.format.specs.Written.{GapRule, gapBy, reach, writtenSpans}
 use Rattle.format.specs.Correct.{withContent}
 use Rattle.sectors.specs.declared.SectorAt.{SectorAt}
 use Rattle.sectors.specs.SectorAt.{lastFirstCount, sectorAt, asSectorAt}
@@ -38,28 +38,28 @@ pub record ReadAt (t m : List ℕ) (q : ℕ) (x : SectorAt) : Type 0 where
   pub is-read : asSectorAt x ≡ sectorAt q (cells t m)
 
 -- The sectors xs in first-written form, which fill n cells.
-abbrev pub laterCells : ℕ → List Placed → List ℕ
-laterCells n xs = joined (writtenSpans gapOne n (sectorsOf xs))
+abbrev pub laterCells : GapRule → ℕ → List Placed → List ℕ
+laterCells rule n xs = joined (writtenSpans (gapBy rule) n (sectorsOf xs))
 
 -- There is room for them from place `at` of l cells on; none remain at index.
-abbrev pub RoomFor : ℕ → ℕ → List Placed → Type 0
-RoomFor l at [] = at ≡ l
-RoomFor l at (x ∷ xs) = at + reach gapOne (sectorsOf (x ∷ xs)) ≤ l
+abbrev pub RoomFor : GapRule → ℕ → ℕ → List Placed → Type 0
+RoomFor rule l at [] = at ≡ l
+RoomFor rule l at (x ∷ xs) = at + reach (gapBy rule) (sectorsOf (x ∷ xs)) ≤ l
 
 -- The sectors from place p of the old track on, all behind sector 0, have room from place `at` of the new one on.
-pub record RemainingRoom (t m : List ℕ) (p at : ℕ) : Type 0 where
+pub record RemainingRoom (rule : GapRule) (t m : List ℕ) (p at : ℕ) : Type 0 where
   pub remaining : Remaining t m p
   pub behind : lastFirstCount < p
-  pub room : RoomFor (length t) at (remaining .sectors)
+  pub room : RoomFor rule (length t) at (remaining .sectors)
 
 -- Where the last block of the sectors xs ends, if a block before them ends at `end` and has the gap `gap` behind it.
-unfoldable pub farthest : ℕ → ℕ → List Placed → ℕ
-farthest end gap xs = end + pick (none xs) 0 (gap + reach gapOne (sectorsOf xs))
+unfoldable pub farthest : GapRule → ℕ → ℕ → List Placed → ℕ
+farthest rule end gap xs = end + pick (none xs) 0 (gap + reach (gapBy rule) (sectorsOf xs))
 
 -- Where the last block ends, if the sector x at place q, with the sectors xs behind it, gets a new key and data.
-unfoldable pub correctedEnd : ℕ → List ℕ → List ℕ → Placed → List Placed → ℕ
-correctedEnd q key body x xs = q + reach gapOne (withContent key body (x .sector) ∷ sectorsOf xs)
+unfoldable pub correctedEnd : GapRule → ℕ → List ℕ → List ℕ → Placed → List Placed → ℕ
+correctedEnd rule q key body x xs = q + reach (gapBy rule) (withContent key body (x .sector) ∷ sectorsOf xs)
 
 -- The cells from there to index of a track of l cells.
-unfoldable pub correctedCells : ℕ → ℕ → List ℕ → List ℕ → Placed → List Placed → List ℕ
-correctedCells l q key body x xs = joined (writtenSpans gapOne (l - q) (withContent key body (x .sector) ∷ sectorsOf xs))
+unfoldable pub correctedCells : GapRule → ℕ → ℕ → List ℕ → List ℕ → Placed → List Placed → List ℕ
+correctedCells rule l q key body x xs = joined (writtenSpans (gapBy rule) (l - q) (withContent key body (x .sector) ∷ sectorsOf xs))

@@ -6,10 +6,11 @@ ghost use Prim.Native.Nat.{_+_, _-_, _≤_};
 ghost use lib.ListN.{length, take, replicate};
 ghost use Rattle.format.specs.Answer.{asAnswer};
 ghost use Rattle.format.specs.Lent.{cells, bytesOf, marksOf};
-ghost use Rattle.format.specs.Written.{gapOne, asPair, sectorSize, after, leaves};
+ghost use Rattle.format.specs.Written.{gapOne, gapBy, asPair, sectorSize, after, leaves};
 ghost use Rattle.format.specs.Sector.{contentRight};
 ghost use Rattle.format.specs.Add.{addedFlag, addCells, add};
 ghost use Rattle.encode.specs.Room.{sectorFrom};
+ghost use Rattle.encode.specs.Gap.{asRule};
 ghost use Rattle.writer.specs.Filled.{filledSpan};
 ghost use Rattle.writer.specs.Remaining.{ReadableFlag, Addable};
 use crate::both_lent;
@@ -54,6 +55,7 @@ fn write_added(
 
 // Add behind the last sector of an accepted track on which no sector carries S: 15, and then the new track is written.
 fn add_behind(
+    rule: encode::GapRule,
     track: &[u8],
     marks: &[u8],
     out: &mut [u8],
@@ -68,13 +70,13 @@ fn add_behind(
     requires { ⌜ Addable (now track) (now marks) start f s ⌝ }
     requires { ⌜ (b7 ≤ 1) × (contentRight (now key) (now body) ≡ true) ⌝ }
     requires { ⌜ (length (now out) ≡ length (now track)) × (length (now «out_marks») ≡ length (now track)) ⌝ }
-    ensures { λ r. ⌜ after (asAnswer r) (now (out .exit)) (now («out_marks» .exit)) ≡ leaves (asPair (addCells gapOne (cells (now (track .entry)) (now (marks .entry))) b7 s (now (key .entry)) (now (body .entry)))) (now (out .entry)) (now («out_marks» .entry)) ⌝ }
+    ensures { λ r. ⌜ after (asAnswer r) (now (out .exit)) (now («out_marks» .exit)) ≡ leaves (asPair (addCells (gapBy (asRule rule)) (cells (now (track .entry)) (now (marks .entry))) b7 s (now (key .entry)) (now (body .entry)))) (now (out .entry)) (now («out_marks» .entry)) ⌝ }
 {
     let last = sectors::last_of(track, marks, start);
     let kl = last.sector.key_length as u8;
     let dl = last.sector.data_length as u16;
     let end = last.sector.end;
-    let to = end + encode::gap_one(kl, dl);
+    let to = end + encode::gap_after(rule, kl, dl);
     let n = encode::sector_size(false, key.len() as u8, body.len() as u16);
     let room = judge_room(track.len(), to + n);
     if room.number == 0 {
@@ -88,6 +90,7 @@ fn add_behind(
 
 // Add on an accepted track whose sector 0 opens at place `start` and whose home has the flag f: 14, 13, 15, and then the new track is written.
 fn add_on(
+    rule: encode::GapRule,
     track: &[u8],
     marks: &[u8],
     out: &mut [u8],
@@ -101,7 +104,7 @@ fn add_on(
 ) -> format::Answer
     requires { ⌜ ReadableFlag (now track) (now marks) start f ⌝ }
     requires { ⌜ (length (now out) ≡ length (now track)) × (length (now «out_marks») ≡ length (now track)) ⌝ }
-    ensures { λ r. ⌜ after (asAnswer r) (now (out .exit)) (now («out_marks» .exit)) ≡ leaves (asPair (addCells gapOne (cells (now (track .entry)) (now (marks .entry))) b7 s (now (key .entry)) (now (body .entry)))) (now (out .entry)) (now («out_marks» .entry)) ⌝ }
+    ensures { λ r. ⌜ after (asAnswer r) (now (out .exit)) (now («out_marks» .exit)) ≡ leaves (asPair (addCells (gapBy (asRule rule)) (cells (now (track .entry)) (now (marks .entry))) b7 s (now (key .entry)) (now (body .entry)))) (now (out .entry)) (now («out_marks» .entry)) ⌝ }
 {
     if 1 < b7 {
         return format::wanted_wrong();
@@ -113,7 +116,19 @@ fn add_on(
     if sought.place < track.len() {
         return format::sector_repeated(sought.place);
     }
-    add_behind(track, marks, out, out_marks, start, f, b7, s, key, body)
+    add_behind(
+        rule,
+        track,
+        marks,
+        out,
+        out_marks,
+        start,
+        f,
+        b7,
+        s,
+        key,
+        body,
+    )
 }
 
 // Add: 1, the old track's own answer, 14, 13 and 15 leave every byte and mark as it was; 0 where the new track is written.
@@ -137,6 +152,7 @@ pub fn add(
         accepting::Judged::Accepted(h) => {
             let start = h.place + 25;
             add_on(
+                encode::GapRule::One,
                 track,
                 marks,
                 new_track,

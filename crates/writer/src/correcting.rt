@@ -6,8 +6,9 @@ ghost use lib.ListN.{length, take};
 ghost use Rattle.format.specs.Answer.{asAnswer};
 ghost use Rattle.format.specs.Lent.{cells, bytesOf, marksOf};
 ghost use Rattle.format.specs.Accept.{Placed};
-ghost use Rattle.format.specs.Written.{gapOne, asPair, after, leaves};
+ghost use Rattle.format.specs.Written.{gapOne, gapBy, asPair, after, leaves};
 ghost use Rattle.format.specs.Correct.{correctCells, correct};
+ghost use Rattle.encode.specs.Gap.{asRule};
 ghost use Rattle.sectors.specs.SectorAt.{lastFirstCount};
 ghost use Rattle.sectors.specs.From.{SectorsFrom, Remaining};
 ghost use Rattle.writer.specs.Remaining.{Readable, ReadAt, RemainingRoom, RoomFor, laterCells, farthest, correctedEnd, correctedCells};
@@ -19,10 +20,17 @@ use crate::put_span;
 use crate::span_end;
 
 // The place at which the last block ends, if the sectors from place p on are written behind a block that ends at `end` with the gap `gap`.
-fn end_of_later(track: &[u8], marks: &[u8], p: usize, end: usize, gap: usize) -> usize
+fn end_of_later(
+    rule: encode::GapRule,
+    track: &[u8],
+    marks: &[u8],
+    p: usize,
+    end: usize,
+    gap: usize,
+) -> usize
     requires { ⌜ Remaining (now track) (now marks) p ⌝ }
-    requires { ⌜ (lastFirstCount < p) × (end + gap ≤ 100000) ⌝ }
-    ensures { λ r. ⌜ ((xs : List Placed) → SectorsFrom (now (track .entry)) (now (marks .entry)) p xs → r ≡ farthest end gap xs) ⌝ }
+    requires { ⌜ (lastFirstCount < p) × (end + gap ≤ 200000) ⌝ }
+    ensures { λ r. ⌜ ((xs : List Placed) → SectorsFrom (now (track .entry)) (now (marks .entry)) p xs → r ≡ farthest (asRule rule) end gap xs) ⌝ }
 {
     let mut p = p;
     let mut end = end;
@@ -32,7 +40,7 @@ fn end_of_later(track: &[u8], marks: &[u8], p: usize, end: usize, gap: usize) ->
         let kl = x.key_length as u8;
         let dl = x.data_length as u16;
         end = end + gap + encode::sector_size(false, kl, dl);
-        gap = encode::gap_one(kl, dl);
+        gap = encode::gap_after(rule, kl, dl);
         p = x.next;
     }
     end
@@ -40,6 +48,7 @@ fn end_of_later(track: &[u8], marks: &[u8], p: usize, end: usize, gap: usize) ->
 
 // Writes the sectors from place p of the old track on, from place `at` of the new one on.
 fn write_later(
+    rule: encode::GapRule,
     track: &[u8],
     marks: &[u8],
     out: &mut [u8],
@@ -47,16 +56,17 @@ fn write_later(
     p: usize,
     at: usize,
 )
-    requires { ⌜ RemainingRoom (now track) (now marks) p at ⌝ }
+    requires { ⌜ RemainingRoom (asRule rule) (now track) (now marks) p at ⌝ }
     requires { ⌜ (length (now out) ≡ length (now track)) × (length (now «out_marks») ≡ length (now track)) ⌝ }
-    ensures bytes { λ _. ⌜ ((xs : List Placed) → SectorsFrom (now (track .entry)) (now (marks .entry)) p xs → RoomFor (length (now (track .entry))) at xs → now (out .exit) ≡ take at (now (out .entry)) ++ bytesOf (laterCells (length (now (track .entry)) - at) xs)) ⌝ }
-    ensures marks { λ _. ⌜ ((xs : List Placed) → SectorsFrom (now (track .entry)) (now (marks .entry)) p xs → RoomFor (length (now (track .entry))) at xs → now («out_marks» .exit) ≡ take at (now («out_marks» .entry)) ++ marksOf (laterCells (length (now (track .entry)) - at) xs)) ⌝ }
+    ensures bytes { λ _. ⌜ ((xs : List Placed) → SectorsFrom (now (track .entry)) (now (marks .entry)) p xs → RoomFor (asRule rule) (length (now (track .entry))) at xs → now (out .exit) ≡ take at (now (out .entry)) ++ bytesOf (laterCells (asRule rule) (length (now (track .entry)) - at) xs)) ⌝ }
+    ensures marks { λ _. ⌜ ((xs : List Placed) → SectorsFrom (now (track .entry)) (now (marks .entry)) p xs → RoomFor (asRule rule) (length (now (track .entry))) at xs → now («out_marks» .exit) ≡ take at (now («out_marks» .entry)) ++ marksOf (laterCells (asRule rule) (length (now (track .entry)) - at) xs)) ⌝ }
 {
     let mut p = p;
     let mut at = at;
     while p < track.len() {
         let x = sectors::sector_at(track, marks, p);
-        let to = span_end(at, false, x.key_length, x.data_length, x.last, track.len());
+        let l = track.len();
+        let to = span_end(rule, at, false, x.key_length, x.data_length, x.last, l);
         let k = x.key_place;
         let k_end = k + x.key_length;
         let d = x.data_place;
@@ -80,6 +90,7 @@ fn write_later(
 
 // The place at which the last block ends, if the sector x at place q gets the new key and data.
 fn corrected_end(
+    rule: encode::GapRule,
     track: &[u8],
     marks: &[u8],
     q: usize,
@@ -89,17 +100,25 @@ fn corrected_end(
 ) -> usize
     requires { ⌜ ReadAt (now track) (now marks) q x ⌝ }
     requires { ⌜ (length (now key) ≤ 255) × (length (now body) ≤ 65535) ⌝ }
-    ensures { λ r. ⌜ ((y : Placed) (ys : List Placed) → SectorsFrom (now (track .entry)) (now (marks .entry)) q (y ∷ ys) → r ≡ correctedEnd q (now (key .entry)) (now (body .entry)) y ys) ⌝ }
+    ensures { λ r. ⌜ ((y : Placed) (ys : List Placed) → SectorsFrom (now (track .entry)) (now (marks .entry)) q (y ∷ ys) → r ≡ correctedEnd (asRule rule) q (now (key .entry)) (now (body .entry)) y ys) ⌝ }
 {
     let kl = key.len() as u8;
     let dl = body.len() as u16;
     let first = sectors::opens_first(q);
     let end = q + encode::sector_size(first, kl, dl);
-    end_of_later(track, marks, x.next, end, encode::gap_one(kl, dl))
+    end_of_later(
+        rule,
+        track,
+        marks,
+        x.next,
+        end,
+        encode::gap_after(rule, kl, dl),
+    )
 }
 
 // Writes the new track: what stands before place q as it was, the sector x there with the new key and data, and those behind it.
 fn write_corrected(
+    rule: encode::GapRule,
     track: &[u8],
     marks: &[u8],
     out: &mut [u8],
@@ -110,23 +129,24 @@ fn write_corrected(
     body: &[u8],
 )
     requires { ⌜ ReadAt (now track) (now marks) q x ⌝ }
-    requires { ⌜ ((y : Placed) (ys : List Placed) → SectorsFrom (now track) (now marks) q (y ∷ ys) → correctedEnd q (now key) (now body) y ys ≤ length (now track)) ⌝ }
+    requires { ⌜ ((y : Placed) (ys : List Placed) → SectorsFrom (now track) (now marks) q (y ∷ ys) → correctedEnd (asRule rule) q (now key) (now body) y ys ≤ length (now track)) ⌝ }
     requires { ⌜ (length (now key) ≤ 255) × (length (now body) ≤ 65535) ⌝ }
     requires { ⌜ (length (now marks) ≡ length (now track)) × (length (now out) ≡ length (now track)) × (length (now «out_marks») ≡ length (now track)) ⌝ }
-    ensures bytes { λ _. ⌜ ((y : Placed) (ys : List Placed) → SectorsFrom (now (track .entry)) (now (marks .entry)) q (y ∷ ys) → now (out .exit) ≡ take q (now (track .entry)) ++ bytesOf (correctedCells (length (now (track .entry))) q (now (key .entry)) (now (body .entry)) y ys)) ⌝ }
-    ensures marks { λ _. ⌜ ((y : Placed) (ys : List Placed) → SectorsFrom (now (track .entry)) (now (marks .entry)) q (y ∷ ys) → now («out_marks» .exit) ≡ take q (now (marks .entry)) ++ marksOf (correctedCells (length (now (track .entry))) q (now (key .entry)) (now (body .entry)) y ys)) ⌝ }
+    ensures bytes { λ _. ⌜ ((y : Placed) (ys : List Placed) → SectorsFrom (now (track .entry)) (now (marks .entry)) q (y ∷ ys) → now (out .exit) ≡ take q (now (track .entry)) ++ bytesOf (correctedCells (asRule rule) (length (now (track .entry))) q (now (key .entry)) (now (body .entry)) y ys)) ⌝ }
+    ensures marks { λ _. ⌜ ((y : Placed) (ys : List Placed) → SectorsFrom (now (track .entry)) (now (marks .entry)) q (y ∷ ys) → now («out_marks» .exit) ≡ take q (now (marks .entry)) ++ marksOf (correctedCells (asRule rule) (length (now (track .entry))) q (now (key .entry)) (now (body .entry)) y ys)) ⌝ }
 {
     let a = x.address;
     let l = track.len();
     let first = sectors::opens_first(q);
-    let to = span_end(q, first, key.len(), body.len(), x.last, l);
+    let to = span_end(rule, q, first, key.len(), body.len(), x.last, l);
     put_span(out, out_marks, q, to, first, x.flag, a, x.number, key, body);
-    write_later(track, marks, out, out_marks, x.next, to);
+    write_later(rule, track, marks, out, out_marks, x.next, to);
     copy_kept(track, marks, out, out_marks, q);
 }
 
 // Correct on an accepted track whose sector 0 opens at place `start`: 14, 12, 15, and then the new track is written.
 fn correct_on(
+    rule: encode::GapRule,
     track: &[u8],
     marks: &[u8],
     out: &mut [u8],
@@ -138,7 +158,7 @@ fn correct_on(
 ) -> format::Answer
     requires { ⌜ Readable (now track) (now marks) start ⌝ }
     requires { ⌜ (length (now out) ≡ length (now track)) × (length (now «out_marks») ≡ length (now track)) ⌝ }
-    ensures { λ r. ⌜ after (asAnswer r) (now (out .exit)) (now («out_marks» .exit)) ≡ leaves (asPair (correctCells gapOne (cells (now (track .entry)) (now (marks .entry))) s (now (key .entry)) (now (body .entry)))) (now (out .entry)) (now («out_marks» .entry)) ⌝ }
+    ensures { λ r. ⌜ after (asAnswer r) (now (out .exit)) (now («out_marks» .exit)) ≡ leaves (asPair (correctCells (gapBy (asRule rule)) (cells (now (track .entry)) (now (marks .entry))) s (now (key .entry)) (now (body .entry)))) (now (out .entry)) (now («out_marks» .entry)) ⌝ }
 {
     if !content_right(key, body) {
         return format::wanted_wrong();
@@ -147,10 +167,11 @@ fn correct_on(
     if track.len() <= sought.place {
         return format::sector_missing();
     }
-    let end = corrected_end(track, marks, sought.place, sought.sector, key, body);
+    let end = corrected_end(rule, track, marks, sought.place, sought.sector, key, body);
     let a = judge_room(track.len(), end);
     if a.number == 0 {
         write_corrected(
+            rule,
             track,
             marks,
             out,
@@ -183,7 +204,17 @@ pub fn correct(
     match judged {
         accepting::Judged::Accepted(h) => {
             let start = h.place + 25;
-            correct_on(track, marks, new_track, new_marks, start, s, key, body)
+            correct_on(
+                encode::GapRule::One,
+                track,
+                marks,
+                new_track,
+                new_marks,
+                start,
+                s,
+                key,
+                body,
+            )
         }
         accepting::Judged::Refused(a) => a,
     }

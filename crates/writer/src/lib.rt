@@ -8,10 +8,11 @@ ghost use Rattle.base.specs.Pick.{pick};
 ghost use Rattle.format.specs.Answer.{asAnswer, done, roomMissing};
 ghost use Rattle.format.specs.Lent.{bytesOf, marksOf, bothLent};
 ghost use Rattle.format.specs.Block.{leastGap};
-ghost use Rattle.format.specs.Written.{gapOne, sectorSize};
+ghost use Rattle.format.specs.Written.{gapBy, sectorSize};
 ghost use Rattle.format.specs.Sector.{contentRight};
 ghost use Rattle.encode.specs.Laid.{laidOver, laidAt};
 ghost use Rattle.encode.specs.Room.{sectorFrom};
+ghost use Rattle.encode.specs.Gap.{asRule};
 ghost use Rattle.writer.specs.Filled.{filledSpan};
 
 pub mod adding;
@@ -56,16 +57,26 @@ fn judge_room(l: usize, end: usize) -> format::Answer
     format::done()
 }
 
-// The place up to which a sector written at place `at` and the gap behind it reach: to index where it is the last, else by rule one.
-fn span_end(at: usize, first: bool, kl: usize, dl: usize, last: bool, l: usize) -> usize
+// The place up to which a sector written at place `at` and the gap behind it reach: to index where it is the last, else by the rule.
+fn span_end(
+    rule: encode::GapRule,
+    at: usize,
+    first: bool,
+    kl: usize,
+    dl: usize,
+    last: bool,
+    l: usize,
+) -> usize
     requires { ⌜ (kl ≤ 255) × (dl ≤ 65535) ⌝ }
     requires { ⌜ at ≤ 4002 ⌝ }
-    ensures { λ r. ⌜ r ≡ pick last l (at + sectorSize first kl dl + gapOne kl dl) ⌝ }
+    ensures { λ r. ⌜ r ≡ pick last l (at + sectorSize first kl dl + gapBy (asRule rule) kl dl) ⌝ }
 {
     if last {
         return l;
     }
-    at + encode::sector_size(first, kl as u8, dl as u16) + encode::gap_one(kl as u8, dl as u16)
+    let kl = kl as u8;
+    let dl = dl as u16;
+    at + encode::sector_size(first, kl, dl) + encode::gap_after(rule, kl, dl)
 }
 
 // Copies the first n bytes and marks.

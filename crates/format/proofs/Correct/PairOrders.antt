@@ -1,7 +1,6 @@
 -- Two corrections of a lent pair, in either order.
 use mathlib.Core.Path.{_≡_, refl, sym, ap, _∙_}
 use Prim.Native.Nat.{ℕ, _≤_}
-use native.Mathlib.Omega.{arith}
 use mathlib.Core.Bool.{true}
 use mathlib.Core.List.{List}
 use lib.ListN.{length}
@@ -9,9 +8,10 @@ use borrow.Author.Tests.{eq-eqb}
 use Rattle.format.specs.Judged.{good}
 use Rattle.format.specs.Lent.{lengthRight, lentForReading, cells, bytesOf, marksOf, bothLent}
 use Rattle.format.specs.Accept.{Accepted, accept, acceptCells, sectorsOf}
-use Rattle.format.specs.Written.{gapOne, Pair, asPair}
+use Rattle.format.specs.Written.{gapOne, ruleOne, Pair, asPair}
 use Rattle.format.specs.Correct.{correct}
 use Rattle.format.specs.Together.{Correction, withBoth, corrected, correctedPair, together}
+use Rattle.format.proofs.Written.Gap.{rule-least}
 use Rattle.format.proofs.Correct.Replaced.{Bytes}
 use Rattle.format.proofs.Track.Pairs.{cells-of, lent-pair, accept-pair, accepted-pair, lent-length, written-pair}
 use Rattle.format.proofs.Correct.Orders.{correct-accepted, corrections-commute, together-sectors}
@@ -69,8 +69,7 @@ module _ (gap : ℕ → ℕ → ℕ) (least : (k d : ℕ) → 21 ≤ gap k d) wh
 
 -- Rule one leaves at least the least gap.
 pub gapOne-least : (k d : ℕ) → 21 ≤ gapOne k d
-unfolding gapOne
-gapOne-least k d = omega arith
+gapOne-least = rule-least ruleOne
 
 -- The two orders by rule one.
 pub two-orders-rule-one : (t m : List ℕ) (a : Accepted) → accept t m ≡ good a → (x y : Correction) → (x .number ≡ y .number → ⊥) → Bytes x → Bytes y

@@ -7,11 +7,12 @@ use mathlib.Core.List.{List, _++_}
 use lib.ListN.{length, replicate}
 use Rattle.format.specs.Lent.{unmarked}
 use Rattle.format.specs.Sector.{Sector}
-use Rattle.format.specs.Written.{gapOne}
+use Rattle.format.proofs.Written.Gap.{rule-most}
 use Rattle.format.specs.Add.{addedFlag, addedSector}
 use Rattle.format.specs.Accept.{lastOf}
 use Rattle.encode.specs.Room.{sectorFrom}
 use Rattle.format.proofs.Cells.Opening.{unmarked-below}
+use Rattle.encode.specs.Gap.{asRule}
 use Rattle.writer.specs.Filled.{filledSpan}
 use Rattle.format.proofs.Written.Outcome.{after-refused, after-good}
 use Rattle.writer.proofs.Outcome.{room-done, room-short}
@@ -28,36 +29,38 @@ last-of-requires c κs = search needs
 cast-kl : tie.Need-cast-kl
 cast-kl c =
     let a = c .before .before .before .before .before .before .before .before .args in
+    let rule = asRule (a .rule) in
     let t = a .track .now in
     let m = a .marks .now in
     let r = c .before .before .before .before .before .before .before .before .pre .0 .flagged .readable in
     let last = c .before .last-of in
-    let v = last-read t m (a .start) r (last .result) (last .ensures .0) (last .ensures .1) in
+    let v = last-read rule t m (a .start) r (last .result) (last .ensures .0) (last .ensures .1) in
     omega (arith, v .key-fits)
 
 cast-dl : tie.Need-cast-dl
 cast-dl c =
     let a = c .before .before .before .before .before .before .before .before .before .args in
+    let rule = asRule (a .rule) in
     let t = a .track .now in
     let m = a .marks .now in
     let r = c .before .before .before .before .before .before .before .before .before .pre .0 .flagged .readable in
     let last = c .before .before .last-of in
-    let v = last-read t m (a .start) r (last .result) (last .ensures .0) (last .ensures .1) in
+    let v = last-read rule t m (a .start) r (last .result) (last .ensures .0) (last .ensures .1) in
     omega (arith, v .data-fits)
 
-gap-one-requires : tie.Need-gap-one-requires
-gap-one-requires c κs = search needs
+gap-after-requires : tie.Need-gap-after-requires
+gap-after-requires c κs = search needs
 
 add-to : tie.Need-add-to
-unfolding gapOne
 add-to c =
     let a = c .before .before .before .before .before .before .before .before .before .before .args in
+    let rule = asRule (a .rule) in
     let t = a .track .now in
     let m = a .marks .now in
     let r = c .before .before .before .before .before .before .before .before .before .before .pre .0 .flagged .readable in
     let last = c .before .before .before .last-of in
-    let v = last-read t m (a .start) r (last .result) (last .ensures .0) (last .ensures .1) in
-    omega (arith, c .gap-one .ensures, v .key-fits, v .data-fits, v .end-inside, readable-remaining t m (a .start) r .length-most)
+    let v = last-read rule t m (a .start) r (last .result) (last .ensures .0) (last .ensures .1) in
+    omega (arith, c .gap-after .ensures, rule-most rule (last .result .sector .«key_length») (last .result .sector .«data_length»), v .key-fits, v .data-fits, v .end-inside, readable-remaining t m (a .start) r .length-most)
 
 cast-sector-size : tie.Need-cast-sector-size
 cast-sector-size c =
@@ -75,16 +78,16 @@ sector-size-requires : tie.Need-sector-size-requires
 sector-size-requires c κs = search needs
 
 add-judge-room : tie.Need-add-judge-room
-unfolding gapOne
 add-judge-room c =
     let a = c .before .before .before .before .before .before .before .before .before .before .before .args in
+    let rule = asRule (a .rule) in
     let t = a .track .now in
     let m = a .marks .now in
     let r = c .before .before .before .before .before .before .before .before .before .before .before .pre .0 .flagged .readable in
     let last = c .before .before .before .before .last-of in
-    let v = last-read t m (a .start) r (last .result) (last .ensures .0) (last .ensures .1) in
+    let v = last-read rule t m (a .start) r (last .result) (last .ensures .0) (last .ensures .1) in
     let h = content-bounds (a .key .now) (a .body .now) (c .before .before .before .before .before .before .before .before .before .before .before .pre .1 .0 .1) in
-    omega (arith, h, c .before .gap-one .ensures, c .sector-size .ensures, size-most false (length (a .key .now)) (length (a .body .now)), v .key-fits, v .data-fits, v .end-inside, readable-remaining t m (a .start) r .length-most)
+    omega (arith, h, c .before .gap-after .ensures, rule-most rule (last .result .sector .«key_length») (last .result .sector .«data_length»), c .sector-size .ensures, size-most false (length (a .key .now)) (length (a .body .now)), v .key-fits, v .data-fits, v .end-inside, readable-remaining t m (a .start) r .length-most)
 
 judge-room-requires : tie.Need-judge-room-requires
 judge-room-requires c κs = let a = c .before .before .before .before .before .before .before .before .before .before .before .args in omega (arith, readable-lengths (a .track .now) (a .marks .now) (a .start) (c .before .before .before .before .before .before .before .before .before .before .before .pre .0 .flagged .readable))
@@ -92,11 +95,12 @@ judge-room-requires c κs = let a = c .before .before .before .before .before .b
 cast-i : tie.Need-cast-i
 cast-i c =
     let a = c .before .before .before .before .before .before .before .before .before .before .before .before .before .before .before .args in
+    let rule = asRule (a .rule) in
     let t = a .track .now in
     let m = a .marks .now in
     let r = c .before .before .before .before .before .before .before .before .before .before .before .before .before .before .before .pre .0 .flagged .readable in
     let last = c .before .before .before .before .before .before .before .before .last-of in
-    let v = last-read t m (a .start) r (last .result) (last .ensures .0) (last .ensures .1) in
+    let v = last-read rule t m (a .start) r (last .result) (last .ensures .0) (last .ensures .1) in
     omega (arith, v .position-fits)
 
 added-flag-requires : tie.Need-added-flag-requires
@@ -110,7 +114,7 @@ write-added-requires c κs =
     let k = readable-lengths t (a .marks .now) (a .start) (c .before .before .before .before .before .before .before .before .before .before .before .before .before .before .before .before .before .before .before .pre .0 .flagged .readable) in
     let judged = c .before .before .before .before .before .before .before .judge-room in
     let size = c .before .before .before .before .before .before .before .before .sector-size in
-    let room = room-done (judged .result) (last .result .sector .end + c .before .before .before .before .before .before .before .before .before .gap-one .result + size .result) (length t) (judged .ensures) (c .before .before .before .before .before .if1 .taken) in
+    let room = room-done (judged .result) (last .result .sector .end + c .before .before .before .before .before .before .before .before .before .gap-after .result + size .result) (length t) (judged .ensures) (c .before .before .before .before .before .if1 .taken) in
     let long = c .before .before .before .before .before .before .before .before .before .before .before .before .before .before .before .before .before .before .before .pre .1 .1 in
     (content-bounds (a .key .now) (a .body .now) (c .before .before .before .before .before .before .before .before .before .before .before .before .before .before .before .before .before .before .before .pre .1 .0 .1), ((omega arith, omega (arith, room .0, size .ensures)), (k .1, long .0, long .1)))
 
@@ -123,14 +127,15 @@ same-length-2 c = search needs
 returns : tie.Need-returns
 returns c =
     let a = c .before .before .before .before .before .before .before .before .before .before .before .before .before .before .before .before .before .before .before .before .before .before .before .before .args in
+    let rule = asRule (a .rule) in
     let t = a .track .now in
     let m = a .marks .now in
     let r = c .before .before .before .before .before .before .before .before .before .before .before .before .before .before .before .before .before .before .before .before .before .before .before .before .pre .0 .flagged .readable in
     let last = c .before .before .before .before .before .before .before .before .before .before .before .before .before .before .before .before .before .last-of in
-    let v = last-read t m (a .start) r (last .result) (last .ensures .0) (last .ensures .1) in
+    let v = last-read rule t m (a .start) r (last .result) (last .ensures .0) (last .ensures .1) in
     let u = readable-remaining t m (a .start) r in
     let k = readable-lengths t m (a .start) r in
-    let gap = c .before .before .before .before .before .before .before .before .before .before .before .before .before .before .gap-one in
+    let gap = c .before .before .before .before .before .before .before .before .before .before .before .before .before .before .gap-after in
     let size = c .before .before .before .before .before .before .before .before .before .before .before .before .before .sector-size in
     let end = last .result .sector .end in
     let to = end + gap .result in
@@ -141,13 +146,13 @@ returns c =
     let flag = c .before .before .before .before .before .before .before .before .added-flag in
     let made : sectorFrom false (flag .result) (last .result .sector .address .cylinder) (last .result .sector .address .head) (a .s) (a .key .now) (a .body .now)
     ≡ addedSector h (suc (0 + length (v .xs))) (lastOf (v .x) (v .xs)) (a .b7) (a .s) (a .key .now) (a .body .now) =
-    added-made t m (a .start) r (last .result) v h (flag .result) (a .b7) (a .s) (a .key .now) (a .body .now)
+    added-made rule t m (a .start) r (last .result) v h (flag .result) (a .b7) (a .s) (a .key .now) (a .body .now)
     (flag .ensures ∙ ap (λ (n : ℕ). addedFlag n (last .result .position) (a .b7)) (c .before .before .before .before .before .before .before .before .before .before .before .before .before .before .before .before .before .before .before .before .before .before .before .before .pre .0 .flagged .flag-is)) in
     let W : ℕ → Sector → List ℕ = λ l n. replicate (to - end) 0xFF ++ filledSpan (l - to) n in
     let same = ap₂ W (sym (u .cells-length)) made in
     let bytes : unmarked t ≡ true = unmarked-below t (λ i. omega (arith, c .before .before .before .before .before .before .before .before .before .before .before .before .before .before .before .before .before .before .before .before .before .before .before .shared-slice-known .given i)) in
     after-good _ _ _ (a .out .now) (a .out-marks .now) (wrote .last .1 .1 .0) (wrote .last .1 .1 .1 .0)
-    (add-done t m (a .start) r (a .b7) (a .s) (a .key .now) (a .body .now) (c .before .before .before .before .before .before .before .before .before .before .before .before .before .before .before .before .before .before .before .before .before .before .before .before .pre .1 .0 .0) (c .before .before .before .before .before .before .before .before .before .before .before .before .before .before .before .before .before .before .before .before .before .before .before .before .pre .1 .0 .1) (c .before .before .before .before .before .before .before .before .before .before .before .before .before .before .before .before .before .before .before .before .before .before .before .before .pre .0 .absent) (v .x) (v .xs) (v .all) end to
+    (add-done rule t m (a .start) r (a .b7) (a .s) (a .key .now) (a .body .now) (c .before .before .before .before .before .before .before .before .before .before .before .before .before .before .before .before .before .before .before .before .before .before .before .before .pre .1 .0 .0) (c .before .before .before .before .before .before .before .before .before .before .before .before .before .before .before .before .before .before .before .before .before .before .before .before .pre .1 .0 .1) (c .before .before .before .before .before .before .before .before .before .before .before .before .before .before .before .before .before .before .before .before .before .before .before .before .pre .0 .absent) (v .x) (v .xs) (v .all) end to
     (v .end-is) (ap (λ (n : ℕ). end + n) (gap .ensures ∙ v .gap-is)) (omega (arith, v .end-inside, u .cells-length))
     (omega (arith, room .0, size .ensures, u .cells-length)))
     (room .1)
@@ -157,20 +162,21 @@ returns c =
 returns-2 : tie.Need-returns-2
 returns-2 c =
     let a = c .before .before .before .before .before .before .before .before .before .before .before .before .before .before .args in
+    let rule = asRule (a .rule) in
     let t = a .track .now in
     let m = a .marks .now in
     let r = c .before .before .before .before .before .before .before .before .before .before .before .before .before .before .pre .0 .flagged .readable in
     let last = c .before .before .before .before .before .before .before .last-of in
-    let v = last-read t m (a .start) r (last .result) (last .ensures .0) (last .ensures .1) in
+    let v = last-read rule t m (a .start) r (last .result) (last .ensures .0) (last .ensures .1) in
     let u = readable-remaining t m (a .start) r in
-    let gap = c .before .before .before .before .gap-one in
+    let gap = c .before .before .before .before .gap-after in
     let size = c .before .before .before .sector-size in
     let end = last .result .sector .end in
     let to = end + gap .result in
     let judged = c .before .before .judge-room in
     let room = room-short (judged .result) (to + size .result) (length t) (judged .ensures) (c .if1 .left) in
     after-refused _ _ _ (a .out .now) (a .out-marks .now)
-    (add-short t m (a .start) r (a .b7) (a .s) (a .key .now) (a .body .now) (c .before .before .before .before .before .before .before .before .before .before .before .before .before .before .pre .1 .0 .0) (c .before .before .before .before .before .before .before .before .before .before .before .before .before .before .pre .1 .0 .1) (c .before .before .before .before .before .before .before .before .before .before .before .before .before .before .pre .0 .absent) (v .x) (v .xs) (v .all) end to
+    (add-short rule t m (a .start) r (a .b7) (a .s) (a .key .now) (a .body .now) (c .before .before .before .before .before .before .before .before .before .before .before .before .before .before .pre .1 .0 .0) (c .before .before .before .before .before .before .before .before .before .before .before .before .before .before .pre .1 .0 .1) (c .before .before .before .before .before .before .before .before .before .before .before .before .before .before .pre .0 .absent) (v .x) (v .xs) (v .all) end to
     (v .end-is) (ap (λ (n : ℕ). end + n) (gap .ensures ∙ v .gap-is)) (omega (arith, v .end-inside, u .cells-length))
     (omega (arith, room .0, size .ensures, u .cells-length)))
     (room .1)
@@ -182,7 +188,7 @@ add-behind-spec =
     last-of-requires
     cast-kl
     cast-dl
-    gap-one-requires
+    gap-after-requires
     add-to
     cast-sector-size
     cast-sector-size-2

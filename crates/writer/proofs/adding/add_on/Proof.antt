@@ -2,6 +2,7 @@
 use mathlib.Core.Path.{sym, _∙_}
 use borrow.Author.Tests.{not-true, not-false}
 use Rattle.format.proofs.Written.Outcome.{after-refused}
+use Rattle.encode.specs.Gap.{asRule}
 use Rattle.writer.proofs.Corrected.{readable-steps, found-at, found-none}
 use Rattle.writer.proofs.Added.{add-overflow, add-wanted, add-repeated}
 use borrow.Author.Needs.{needs}
@@ -14,10 +15,11 @@ wanted-wrong-requires c κs = search needs
 returns : tie.Need-returns
 returns c =
     let a = c .before .before .before .before .before .before .before .before .args in
+    let rule = asRule (a .rule) in
     let t = a .track .now in
     let m = a .marks .now in
     let r = c .before .before .before .before .before .before .before .before .pre .0 .readable in
-    after-refused _ _ _ (a .out .now) (a .out-marks .now) (add-overflow t m (a .start) r (a .b7) (a .s) (a .key .now) (a .body .now) (c .before .if1 .taken)) (c .wanted-wrong .ensures)
+    after-refused _ _ _ (a .out .now) (a .out-marks .now) (add-overflow rule t m (a .start) r (a .b7) (a .s) (a .key .now) (a .body .now) (c .before .if1 .taken)) (c .wanted-wrong .ensures)
 
 content-right-requires : tie.Need-content-right-requires
 content-right-requires c κs = search needs
@@ -28,11 +30,12 @@ wanted-wrong-requires-2 c κs = search needs
 returns-2 : tie.Need-returns-2
 returns-2 c =
     let a = c .before .before .before .before .before .before .before .before .before .before .args in
+    let rule = asRule (a .rule) in
     let t = a .track .now in
     let m = a .marks .now in
     let r = c .before .before .before .before .before .before .before .before .before .before .pre .0 .readable in
     after-refused _ _ _ (a .out .now) (a .out-marks .now)
-    (add-wanted t m (a .start) r (a .b7) (a .s) (a .key .now) (a .body .now) (c .before .before .before .if1 .left) (sym (c .before .before .content-right .ensures) ∙ not-true _ (c .before .if2 .taken))) (c .wanted-wrong2 .ensures)
+    (add-wanted rule t m (a .start) r (a .b7) (a .s) (a .key .now) (a .body .now) (c .before .before .before .if1 .left) (sym (c .before .before .content-right .ensures) ∙ not-true _ (c .before .if2 .taken))) (c .wanted-wrong2 .ensures)
 
 place-of-requires : tie.Need-place-of-requires
 place-of-requires c κs = search needs
@@ -43,6 +46,7 @@ sector-repeated-requires c κs = search needs
 returns-3 : tie.Need-returns-3
 returns-3 c =
     let a = c .before .before .before .before .before .before .before .before .before .before .before .before .before .args in
+    let rule = asRule (a .rule) in
     let t = a .track .now in
     let m = a .marks .now in
     let r = c .before .before .before .before .before .before .before .before .before .before .before .before .before .pre .0 .readable in
@@ -50,7 +54,7 @@ returns-3 c =
     let q = found .result .place in
     let z = found-at t m (a .start) q (a .s) r (found .ensures .0 (r .accepted .sectors) (readable-steps t m (a .start) r)) (c .before .if3 .taken) in
     after-refused _ _ _ (a .out .now) (a .out-marks .now)
-    (add-repeated t m (a .start) r (a .b7) (a .s) (a .key .now) (a .body .now) (c .before .before .before .before .before .before .if1 .left) (sym (c .before .before .before .before .before .content-right .ensures) ∙ not-false _ (c .before .before .before .before .if2 .left)) (z .sector) (z .later) q (z .split) (z .place-is))
+    (add-repeated rule t m (a .start) r (a .b7) (a .s) (a .key .now) (a .body .now) (c .before .before .before .before .before .before .if1 .left) (sym (c .before .before .before .before .before .content-right .ensures) ∙ not-false _ (c .before .before .before .before .if2 .left)) (z .sector) (z .later) q (z .split) (z .place-is))
     (c .sector-repeated .ensures)
 
 add-behind-requires : tie.Need-add-behind-requires

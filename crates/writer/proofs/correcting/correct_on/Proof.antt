@@ -11,6 +11,7 @@ use Rattle.format.specs.Lent.{cells, unmarked}
 use Rattle.format.specs.Accept.{Placed}
 use Rattle.format.proofs.Cells.Opening.{unmarked-below}
 use Rattle.sectors.specs.From.{SectorsFrom}
+use Rattle.encode.specs.Gap.{asRule}
 use Rattle.writer.specs.Remaining.{correctedEnd, correctedCells}
 use Rattle.format.proofs.Written.Outcome.{after-refused, after-good}
 use Rattle.format.proofs.Track.Pairs.{pairOf}
@@ -29,8 +30,9 @@ wanted-wrong-requires c κs = search needs
 returns : tie.Need-returns
 returns c =
     let a = c .before .before .before .before .before .before .before .before .before .args in
+    let rule = asRule (a .rule) in
     after-refused _ _ _ (a .out .now) (a .out-marks .now)
-    (correct-wanted (a .track .now) (a .marks .now) (a .start) (c .before .before .before .before .before .before .before .before .before .pre .0) (a .s) (a .key .now) (a .body .now) (sym (c .before .before .content-right .ensures) ∙ not-true _ (c .before .if1 .taken)))
+    (correct-wanted rule (a .track .now) (a .marks .now) (a .start) (c .before .before .before .before .before .before .before .before .before .pre .0) (a .s) (a .key .now) (a .body .now) (sym (c .before .before .content-right .ensures) ∙ not-true _ (c .before .if1 .taken)))
     (c .wanted-wrong .ensures)
 
 place-of-requires : tie.Need-place-of-requires
@@ -42,12 +44,13 @@ sector-missing-requires c κs = search needs
 returns-2 : tie.Need-returns-2
 returns-2 c =
     let a = c .before .before .before .before .before .before .before .before .before .before .before .before .args in
+    let rule = asRule (a .rule) in
     let t = a .track .now in
     let m = a .marks .now in
     let r = c .before .before .before .before .before .before .before .before .before .before .before .before .pre .0 in
     let found = c .before .before .before .place-of in
     after-refused _ _ _ (a .out .now) (a .out-marks .now)
-    (correct-missing t m (a .start) r (a .s) (a .key .now) (a .body .now) (sym (c .before .before .before .before .before .content-right .ensures) ∙ not-false _ (c .before .before .before .before .if1 .left))
+    (correct-missing rule t m (a .start) r (a .s) (a .key .now) (a .body .now) (sym (c .before .before .before .before .before .content-right .ensures) ∙ not-false _ (c .before .before .before .before .if1 .left))
     (found-none t m (a .start) (found .result .place) (a .s) r (found .ensures .0 (r .accepted .sectors) (readable-steps t m (a .start) r)) (c .before .if2 .taken)))
     (c .sector-missing .ensures)
 
@@ -68,6 +71,7 @@ judge-room-requires c κs = let a = c .before .before .before .before .before .b
 write-corrected-requires : tie.Need-write-corrected-requires
 write-corrected-requires c κs =
     let a = c .before .before .before .before .before .before .before .before .before .before .before .before .before .before .before .before .before .args in
+    let rule = asRule (a .rule) in
     let t = a .track .now in
     let m = a .marks .now in
     let r = c .before .before .before .before .before .before .before .before .before .before .before .before .before .before .before .before .before .pre .0 in
@@ -77,7 +81,7 @@ write-corrected-requires c κs =
     let judged = c .before .before .before .before .judge-room in
     let end = c .before .before .before .before .before .corrected-end in
     let fits = room-done (judged .result) (end .result) (length t) (judged .ensures) (c .before .before .if3 .taken) in
-    let room : (y : Placed) (ys : List Placed) → SectorsFrom t m q (y ∷ ys) → correctedEnd q (a .key .now) (a .body .now) y ys ≤ length t =
+    let room : (y : Placed) (ys : List Placed) → SectorsFrom t m q (y ∷ ys) → correctedEnd rule q (a .key .now) (a .body .now) y ys ≤ length t =
     λ y ys f. omega (arith, end .ensures y ys f, fits .0) in (
       found-read t m (a .start) (a .s) r q (found .result .sector) (found .ensures .0 (r .accepted .sectors) (readable-steps t m (a .start) r)) (c .before .before .before .before .before .before .if2 .left) (found .ensures .1),
       (room, (content-bounds (a .key .now) (a .body .now) (sym (c .before .before .before .before .before .before .before .before .before .before .content-right .ensures) ∙ not-false _ (c .before .before .before .before .before .before .before .before .before .if1 .left)), (k .1, c .before .before .before .before .before .before .before .before .before .before .before .before .before .before .before .before .before .pre .1 .0, c .before .before .before .before .before .before .before .before .before .before .before .before .before .before .before .before .before .pre .1 .1))),
@@ -92,6 +96,7 @@ same-length-2 c = search needs
 returns-3 : tie.Need-returns-3
 returns-3 c =
     let a = c .before .before .before .before .before .before .before .before .before .before .before .before .before .before .before .before .before .before .before .before .before .before .args in
+    let rule = asRule (a .rule) in
     let t = a .track .now in
     let m = a .marks .now in
     let r = c .before .before .before .before .before .before .before .before .before .before .before .before .before .before .before .before .before .before .before .before .before .before .pre .0 in
@@ -102,21 +107,22 @@ returns-3 c =
     let wrote = c .before .before .before .before .write-corrected in
     let z = found-at t m (a .start) q (a .s) r (found .ensures .0 (r .accepted .sectors) (readable-steps t m (a .start) r)) (c .before .before .before .before .before .before .before .before .before .before .before .if2 .left) in
     let ended = c .before .before .before .before .before .before .before .before .before .before .corrected-end in
-    let end : ended .result ≡ correctedEnd q (a .key .now) (a .body .now) (z .sector) (z .later) = ended .ensures (z .sector) (z .later) (z .steps) in
+    let end : ended .result ≡ correctedEnd rule q (a .key .now) (a .body .now) (z .sector) (z .later) = ended .ensures (z .sector) (z .later) (z .steps) in
     let judged = c .before .before .before .before .before .before .before .before .before .judge-room in
     let fits = room-done (judged .result) (ended .result) (length t) (judged .ensures) (c .before .before .before .before .before .before .before .if3 .taken) in
-    let W : ℕ → List ℕ = λ l. correctedCells l q (a .key .now) (a .body .now) (z .sector) (z .later) in
+    let W : ℕ → List ℕ = λ l. correctedCells rule l q (a .key .now) (a .body .now) (z .sector) (z .later) in
     let bytes : unmarked t ≡ true = unmarked-below t (λ i. omega (arith, c .before .before .before .before .before .before .before .before .before .before .before .before .before .before .before .before .before .before .before .before .before .shared-slice-known .given i)) in
-    after-good _ _ (pairOf (take q (cells t m) ++ W (length (cells t m)))) (a .out .now) (a .out-marks .now) (wrote .last .1 .1 .0) (wrote .last .1 .1 .1 .0)
-    (correct-done t m (a .start) r (a .s) (a .key .now) (a .body .now) (sym (c .before .before .before .before .before .before .before .before .before .before .before .before .before .before .before .content-right .ensures) ∙ not-false _ (c .before .before .before .before .before .before .before .before .before .before .before .before .before .before .if1 .left))
+    after-good _ _ (pairOf (take q (cells t m) ++ W (length (cells t m)))) (a .out .now) (a .out-marks .now) (wrote .last .1 .1 .1 .0) (wrote .last .1 .1 .1 .1 .0)
+    (correct-done rule t m (a .start) r (a .s) (a .key .now) (a .body .now) (sym (c .before .before .before .before .before .before .before .before .before .before .before .before .before .before .before .content-right .ensures) ∙ not-false _ (c .before .before .before .before .before .before .before .before .before .before .before .before .before .before .if1 .left))
     (z .sector) (z .later) (z .split) q (z .place-is) (omega (arith, c .before .before .before .before .before .before .before .before .before .before .before .if2 .left, u .cells-length)) (omega (arith, fits .0, end, u .cells-length)))
     (fits .1)
-    (kept-bytes q t m (W (length t)) (W (length (cells t m))) (wrote .last .1 .1 .0) (k .1) bytes (ap W (sym (u .cells-length))) (wrote .ensures .0 (z .sector) (z .later) (z .steps)))
-    (kept-marks q t m (W (length t)) (W (length (cells t m))) (wrote .last .1 .1 .1 .0) (k .1) bytes (ap W (sym (u .cells-length))) (wrote .ensures .1 (z .sector) (z .later) (z .steps)))
+    (kept-bytes q t m (W (length t)) (W (length (cells t m))) (wrote .last .1 .1 .1 .0) (k .1) bytes (ap W (sym (u .cells-length))) (wrote .ensures .0 (z .sector) (z .later) (z .steps)))
+    (kept-marks q t m (W (length t)) (W (length (cells t m))) (wrote .last .1 .1 .1 .1 .0) (k .1) bytes (ap W (sym (u .cells-length))) (wrote .ensures .1 (z .sector) (z .later) (z .steps)))
 
 returns-4 : tie.Need-returns-4
 returns-4 c =
     let a = c .before .before .before .before .before .before .before .before .before .before .before .before .before .before .before .args in
+    let rule = asRule (a .rule) in
     let t = a .track .now in
     let m = a .marks .now in
     let r = c .before .before .before .before .before .before .before .before .before .before .before .before .before .before .before .pre .0 in
@@ -125,11 +131,11 @@ returns-4 c =
     let q = found .result .place in
     let z = found-at t m (a .start) q (a .s) r (found .ensures .0 (r .accepted .sectors) (readable-steps t m (a .start) r)) (c .before .before .before .before .if2 .left) in
     let ended = c .before .before .before .corrected-end in
-    let end : ended .result ≡ correctedEnd q (a .key .now) (a .body .now) (z .sector) (z .later) = ended .ensures (z .sector) (z .later) (z .steps) in
+    let end : ended .result ≡ correctedEnd rule q (a .key .now) (a .body .now) (z .sector) (z .later) = ended .ensures (z .sector) (z .later) (z .steps) in
     let judged = c .before .before .judge-room in
     let fits = room-short (judged .result) (ended .result) (length t) (judged .ensures) (c .if3 .left) in
     after-refused _ _ _ (a .out .now) (a .out-marks .now)
-    (correct-short t m (a .start) r (a .s) (a .key .now) (a .body .now) (sym (c .before .before .before .before .before .before .before .before .content-right .ensures) ∙ not-false _ (c .before .before .before .before .before .before .before .if1 .left))
+    (correct-short rule t m (a .start) r (a .s) (a .key .now) (a .body .now) (sym (c .before .before .before .before .before .before .before .before .content-right .ensures) ∙ not-false _ (c .before .before .before .before .before .before .before .if1 .left))
     (z .sector) (z .later) (z .split) q (z .place-is) (omega (arith, c .before .before .before .before .if2 .left, u .cells-length)) (omega (arith, fits .0, end, u .cells-length)))
     (fits .1)
 

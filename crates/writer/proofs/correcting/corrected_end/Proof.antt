@@ -4,7 +4,8 @@ use Prim.Native.Nat.{ℕ, _+_}
 use native.Mathlib.Omega.{arith}
 use lib.ListN.{length}
 use borrow.Author.Needs.{needs}
-use Rattle.format.specs.Written.{gapOne}
+use Rattle.format.proofs.Written.Gap.{rule-most}
+use Rattle.encode.specs.Gap.{asRule}
 use Rattle.writer.proofs.Filled.{size-most}
 use Rattle.writer.proofs.Corrected.{later-remaining, later-steps, end-new}
 use Rattle.writer.proofs.correcting.corrected_end.Statement.{statement}
@@ -28,27 +29,27 @@ add-end c =
     let pre = c .before .before .before .before .before .before .pre in
     omega (arith, pre .1, pre .0 .inside, pre .0 .remaining .length-most, c .sector-size .ensures, size-most (c .before .opens-first .result) (length (a .key .now)) (length (a .body .now)))
 
-gap-one-requires : tie.Need-gap-one-requires
-gap-one-requires c κs = search needs
+gap-after-requires : tie.Need-gap-after-requires
+gap-after-requires c κs = search needs
 
 end-of-later-requires : tie.Need-end-of-later-requires
-unfolding gapOne
 end-of-later-requires c κs =
     let a = c .before .before .before .before .before .before .before .args in
     let pre = c .before .before .before .before .before .before .before .pre in
     let w = later-remaining (a .track .now) (a .marks .now) (a .q) (a .x) (pre .0) in (
       w .0,
-      (w .1, omega (arith, pre .1, pre .0 .inside, pre .0 .remaining .length-most, c .before .sector-size .ensures, c .gap-one .ensures, size-most (c .before .before .opens-first .result) (length (a .key .now)) (length (a .body .now)))),
+      (w .1, omega (arith, pre .1, pre .0 .inside, pre .0 .remaining .length-most, c .before .sector-size .ensures, c .gap-after .ensures, rule-most (asRule (a .rule)) (length (a .key .now)) (length (a .body .now)), size-most (c .before .before .opens-first .result) (length (a .key .now)) (length (a .body .now)))),
     )
 
 returns : tie.Need-returns
 returns c =
     let a = c .before .before .before .before .before .before .before .before .args in
+    let rule = asRule (a .rule) in
     let pre = c .before .before .before .before .before .before .before .before .pre in
     let first = c .before .before .before .opens-first in
     λ y ys f.
-    end-new (a .track .now) (a .marks .now) (a .q) y ys f (a .x) (pre .0 .is-read) (first .result) (first .ensures) (a .key .now) (a .body .now) _ _ _
-    (ap (λ (n : ℕ). a .q + n) (c .before .before .sector-size .ensures)) (c .before .gap-one .ensures)
+    end-new (a .track .now) (a .marks .now) (a .q) y ys f (a .x) (pre .0 .is-read) rule (first .result) (first .ensures) (a .key .now) (a .body .now) _ _ _
+    (ap (λ (n : ℕ). a .q + n) (c .before .before .sector-size .ensures)) (c .before .gap-after .ensures)
     (c .end-of-later .ensures ys (later-steps (a .track .now) (a .marks .now) (a .q) y ys f (a .x) (pre .0 .is-read)))
 
 pub corrected-end-spec : {M : Type 1} → statement M
@@ -60,6 +61,6 @@ corrected-end-spec =
     opens-first-requires
     sector-size-requires
     add-end
-    gap-one-requires
+    gap-after-requires
     end-of-later-requires
     returns)

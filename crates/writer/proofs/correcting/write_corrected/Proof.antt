@@ -8,6 +8,7 @@ use lib.Seq.{length-take-le}
 use borrow.Author.Needs.{needs}
 use Rattle.format.specs.Accept.{Placed}
 use Rattle.sectors.specs.From.{SectorsFrom}
+use Rattle.encode.specs.Gap.{asRule}
 use Rattle.writer.specs.Remaining.{RoomFor}
 use Rattle.writer.proofs.Corrected.{first-remaining, later-remaining, later-steps, content-room, content-bytes, content-marks}
 use Rattle.writer.proofs.correcting.write_corrected.Statement.{statement}
@@ -24,6 +25,7 @@ span-end-requires c κs =
 put-span-requires : tie.Need-put-span-requires
 put-span-requires c κs =
     let a = c .before .before .before .before .before .before .before .before .before .before .before .args in
+    let rule = asRule (a .rule) in
     let pre = c .before .before .before .before .before .before .before .before .before .before .before .pre in
     let long = pre .1 .1 .1 in
     let t = a .track .now in
@@ -31,13 +33,14 @@ put-span-requires c κs =
     let first = c .before .before .before .opens-first in
     let to = c .before .before .span-end in
     let z = first-remaining t m (a .q) (a .x) (pre .0) in
-    let r = content-room t m (a .q) (z .sector) (z .later) (z .steps) (a .x) (pre .0 .is-read) (first .result) (first .ensures) (a .key .now) (a .body .now)
+    let r = content-room t m (a .q) (z .sector) (z .later) (z .steps) (a .x) (pre .0 .is-read) rule (first .result) (first .ensures) (a .key .now) (a .body .now)
     (length t) (to .result) (to .ensures) (pre .1 .0 (z .sector) (z .later) (z .steps)) in
     (pre .1 .1 .0, (r .0, (omega (arith, r .1, long), omega (arith, r .1, long))))
 
 write-later-requires : tie.Need-write-later-requires
 write-later-requires c κs =
     let a = c .before .before .before .before .before .before .before .before .before .before .before .before .before .before .before .before .before .before .args in
+    let rule = asRule (a .rule) in
     let pre = c .before .before .before .before .before .before .before .before .before .before .before .before .before .before .before .before .before .before .pre in
     let long = pre .1 .1 .1 in
     let t = a .track .now in
@@ -46,7 +49,7 @@ write-later-requires c κs =
     let to = c .before .before .before .before .before .before .before .before .before .span-end in
     let one = c .before .before .before .before .before .before .put-span in
     let z = first-remaining t m (a .q) (a .x) (pre .0) in
-    let r = content-room t m (a .q) (z .sector) (z .later) (z .steps) (a .x) (pre .0 .is-read) (first .result) (first .ensures) (a .key .now) (a .body .now)
+    let r = content-room t m (a .q) (z .sector) (z .later) (z .steps) (a .x) (pre .0 .is-read) rule (first .result) (first .ensures) (a .key .now) (a .body .now)
     (length t) (to .result) (to .ensures) (pre .1 .0 (z .sector) (z .later) (z .steps)) in (
       record {
         remaining = record {
@@ -68,8 +71,8 @@ copy-kept-requires c κs =
     let low = pre .0 .inside in
     let one = c .before .before .before .before .before .before .before .before .before .before .before .before .before .put-span in
     let two = c .before .before .before .before .before .before .write-later in
-    let longT = two .kept .1 .1 .0 ∙ one .kept .0 ∙ long .1 in
-    let longM = two .kept .1 .1 .1 .0 ∙ one .kept .1 .0 ∙ long .2 in
+    let longT = two .kept .1 .1 .1 .0 ∙ one .kept .0 ∙ long .1 in
+    let longM = two .kept .1 .1 .1 .1 .0 ∙ one .kept .1 .0 ∙ long .2 in
     ((omega (arith, low), omega (arith, low, long)), (omega (arith, low, longT), omega (arith, low, longM)))
 
 same-length : tie.Need-same-length
@@ -81,6 +84,7 @@ same-length-2 c = search needs
 returns : tie.Need-returns
 returns c =
     let a = c .before .before .before .before .before .before .before .before .before .before .before .before .before .before .before .before .before .before .before .before .before .before .before .before .before .before .before .before .before .before .args in
+    let rule = asRule (a .rule) in
     let pre = c .before .before .before .before .before .before .before .before .before .before .before .before .before .before .before .before .before .before .before .before .before .before .before .before .before .before .before .before .before .before .pre in
     let long = pre .1 .1 .1 in
     let first = c .before .before .before .before .before .before .before .before .before .before .before .before .before .before .before .before .before .before .before .before .before .before .opens-first in
@@ -92,17 +96,17 @@ returns c =
     let l = length t in
     let to = c .before .before .before .before .before .before .before .before .before .before .before .before .before .before .before .before .before .before .before .before .before .span-end in
     let low : a .q ≤ l = omega (arith, pre .0 .inside) in
-    let after : (y : Placed) (ys : List Placed) → SectorsFrom t m (a .q) (y ∷ ys) → RoomFor l (to .result) ys =
+    let after : (y : Placed) (ys : List Placed) → SectorsFrom t m (a .q) (y ∷ ys) → RoomFor rule l (to .result) ys =
     λ y ys f.
-    content-room t m (a .q) y ys f (a .x) (pre .0 .is-read) (first .result) (first .ensures) (a .key .now) (a .body .now) l (to .result) (to .ensures) (pre .1 .0 y ys f) .2 in (
+    content-room t m (a .q) y ys f (a .x) (pre .0 .is-read) rule (first .result) (first .ensures) (a .key .now) (a .body .now) l (to .result) (to .ensures) (pre .1 .0 y ys f) .2 in (
       λ y ys f.
-          content-bytes t m (a .q) y ys f (a .x) (pre .0 .is-read) (first .result) (first .ensures) (a .key .now) (a .body .now) l (to .result) (to .ensures) (pre .1 .0 y ys f)
-          (a .out .now) (one .last .0) (two .last .1 .1 .0) (three .last .1 .1 .0) (take (a .q) t) (omega (arith, low, long))
+          content-bytes t m (a .q) y ys f (a .x) (pre .0 .is-read) rule (first .result) (first .ensures) (a .key .now) (a .body .now) l (to .result) (to .ensures) (pre .1 .0 y ys f)
+          (a .out .now) (one .last .0) (two .last .1 .1 .1 .0) (three .last .1 .1 .0) (take (a .q) t) (omega (arith, low, long))
           (length-take-le (a .q) t low) (three .ensures .0) (one .ensures .0)
           (two .ensures .0 ys (later-steps t m (a .q) y ys f (a .x) (pre .0 .is-read)) (after y ys f)),
       λ y ys f.
-          content-marks t m (a .q) y ys f (a .x) (pre .0 .is-read) (first .result) (first .ensures) (a .key .now) (a .body .now) l (to .result) (to .ensures) (pre .1 .0 y ys f)
-          (a .out-marks .now) (one .last .1 .0) (two .last .1 .1 .1 .0) (three .last .1 .1 .1 .0) (take (a .q) m) (omega (arith, low, long))
+          content-marks t m (a .q) y ys f (a .x) (pre .0 .is-read) rule (first .result) (first .ensures) (a .key .now) (a .body .now) l (to .result) (to .ensures) (pre .1 .0 y ys f)
+          (a .out-marks .now) (one .last .1 .0) (two .last .1 .1 .1 .1 .0) (three .last .1 .1 .1 .0) (take (a .q) m) (omega (arith, low, long))
           (length-take-le (a .q) m (omega (arith, low, long))) (three .ensures .1) (one .ensures .1)
           (two .ensures .1 ys (later-steps t m (a .q) y ys f (a .x) (pre .0 .is-read)) (after y ys f)),
     )
