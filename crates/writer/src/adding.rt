@@ -18,6 +18,7 @@ use crate::content_right;
 use crate::copy_kept;
 use crate::judge_room;
 use crate::put_span;
+use format::layout::HOME_TO_COUNT;
 
 // The flag of a new sector in position i: B8 by its position, B7, and B2 B1 as in the home flag f.
 fn added_flag(f: u8, i: u8, b7: u8) -> u8
@@ -150,7 +151,7 @@ pub fn add(
     let judged = accepting::judge(track, marks);
     match judged {
         accepting::Judged::Accepted(h) => {
-            let start = h.place + 25;
+            let start = h.place + HOME_TO_COUNT;
             add_on(
                 encode::GapRule::One,
                 track,

@@ -5,6 +5,7 @@ ghost use mathlib.Core.List.{_++_};
 ghost use Prim.Native.Nat.{_+_, _-_, _≤_};
 ghost use lib.ListN.{length};
 ghost use Rattle.format.specs.Answer.{asAnswer};
+ghost use Rattle.format.specs.Layout.{headLength};
 ghost use Rattle.format.specs.Lent.{bytesOf, marksOf};
 ghost use Rattle.format.specs.Blank.{namedBy, blankRight, writtenHead, blankSector, blank};
 ghost use Rattle.sector.specs.As.{asAddress};
@@ -14,6 +15,7 @@ ghost use Rattle.writer.specs.Filled.{filledSpan};
 use crate::content_right;
 use crate::judge_room;
 use crate::put_span;
+use format::layout::HEAD;
 use sector::Address;
 
 // What the count of sector 0 names: the track itself for flags 00 and 11, else the partner.
@@ -55,14 +57,14 @@ fn write_blank(
     body: &[u8],
 )
     requires { ⌜ (length (now key) ≤ 255) × (length (now body) ≤ 65535) ⌝ }
-    requires { ⌜ 55 + sectorSize true (length (now key)) (length (now body)) ≤ length (now track) ⌝ }
+    requires { ⌜ headLength + sectorSize true (length (now key)) (length (now body)) ≤ length (now track) ⌝ }
     requires { ⌜ length (now marks) ≡ length (now track) ⌝ }
-    ensures bytes { λ _. ⌜ now (track .exit) ≡ bytesOf (writtenHead flag (asAddress own) ++ filledSpan (length (now (track .entry)) - 55) (blankSector flag (asAddress named) s (now (key .entry)) (now (body .entry)))) ⌝ }
-    ensures marks { λ _. ⌜ now (marks .exit) ≡ marksOf (writtenHead flag (asAddress own) ++ filledSpan (length (now (track .entry)) - 55) (blankSector flag (asAddress named) s (now (key .entry)) (now (body .entry)))) ⌝ }
+    ensures bytes { λ _. ⌜ now (track .exit) ≡ bytesOf (writtenHead flag (asAddress own) ++ filledSpan (length (now (track .entry)) - headLength) (blankSector flag (asAddress named) s (now (key .entry)) (now (body .entry)))) ⌝ }
+    ensures marks { λ _. ⌜ now (marks .exit) ≡ marksOf (writtenHead flag (asAddress own) ++ filledSpan (length (now (track .entry)) - headLength) (blankSector flag (asAddress named) s (now (key .entry)) (now (body .entry)))) ⌝ }
 {
     encode::write_head(track, marks, flag, own.cylinder, own.head);
     let l = track.len();
-    put_span(track, marks, 55, l, true, flag, named, s, key, body);
+    put_span(track, marks, HEAD, l, true, flag, named, s, key, body);
 }
 
 // Blank: 1, 14 and 15 leave every byte and mark as it was; 0 where home and sector 0 stand in the pair.
@@ -92,7 +94,7 @@ pub fn blank(
         return format::wanted_wrong();
     }
     let n = encode::sector_size(true, key.len() as u8, body.len() as u16);
-    let a = judge_room(track.len(), 55 + n);
+    let a = judge_room(track.len(), HEAD + n);
     if a.number == 0 {
         let named = named_by(flag, own, partner);
         write_blank(track, marks, flag, own, named, s, key, body);

@@ -18,6 +18,7 @@ use crate::copy_kept;
 use crate::judge_room;
 use crate::put_span;
 use crate::span_end;
+use format::layout::HOME_TO_COUNT;
 
 // The place at which the last block ends, if the sectors from place p on are written behind a block that ends at `end` with the gap `gap`.
 fn end_of_later(
@@ -203,7 +204,7 @@ pub fn correct(
     let judged = accepting::judge(track, marks);
     match judged {
         accepting::Judged::Accepted(h) => {
-            let start = h.place + 25;
+            let start = h.place + HOME_TO_COUNT;
             correct_on(
                 encode::GapRule::One,
                 track,
