@@ -6,8 +6,9 @@ use mathlib.Core.Bool.{true, false}
 use mathlib.Core.List.{List}
 use lib.Bits.{bitAnd, and-le-r}
 use borrow.Author.Tests.{eq-eqb}
-use lib.ListN.{length, getD, take, drop, length-drop}
-use lib.Seq.{length-take-le, getD-take, getD-drop}
+use lib.ListN.{length, getD, take, drop}
+use lib.Seq.{getD-take, getD-drop}
+use Rattle.base.proofs.Lists.{part-length}
 use Rattle.format.specs.Judged.{refused}
 use Rattle.format.specs.Answer.{patternWrong}
 use Rattle.pattern.specs.Pattern.{recordable, legalPattern}
@@ -20,9 +21,6 @@ use Rattle.pattern.proofs.Masks.{legal-clocked}
 -- An element of the part of n elements from place a on, and the part's length.
 part-at : (x : List ℕ) (a n i : ℕ) → i < n → getD (take n (drop a x)) i 0 ≡ getD x (a + i) 0
 part-at x a n i h = getD-take n (drop a x) i 0 h ∙ getD-drop a x i 0
-
-part-length : (x : List ℕ) (a n : ℕ) → a + n ≤ length x → length (take n (drop a x)) ≡ n
-part-length x a n h = length-take-le n (drop a x) (omega (arith, length-drop a x))
 
 -- Sixteen track bytes whose cell bytes have all their clocks have legal patterns.
 pub clocked-legal : (x : List ℕ) (p n : ℕ) → ((i : ℕ) → getD x i 0 < 256) → Clocked (take n (drop (2 * p) x)) → n ≡ 32 → 2 * p + 32 ≤ length x → LegalFrom 16 p x
@@ -38,14 +36,14 @@ clocked-legal x p n bytes h e l = (
     clocks : (k : ℕ) → k < 32 → (a : ℕ) → a ≡ 2 * p + k → bitAnd (getD x a 0) 0xAA ≡ 0xAA
     clocks k j a q =
         let s : getD (take n (drop (2 * p) x)) k 0 ≡ getD x a 0 = part-at x (2 * p) n k (omega arith) ∙ ap (λ (z : ℕ). getD x z 0) (omega arith) in
-        let m : 0xAA ≤ bitAnd (getD x a 0) 0xAA = rw s at (h k (omega (arith, part-length x (2 * p) n (omega arith)))) in
+        let m : 0xAA ≤ bitAnd (getD x a 0) 0xAA = rw s at (h k (omega (arith, part-length (2 * p) n x (omega arith)))) in
         omega (arith, and-le-r (getD x a 0) 0xAA)
 
 -- Thirty-two marks that are all 0 are so each at its place.
 pub part-unmarked : (m : List ℕ) (p n : ℕ) → Unmarked (take n (drop p m)) → n ≡ 32 → p + 32 ≤ length m → UnmarkedFrom 32 p m
 part-unmarked m p n h e l = (
   l,
-  λ i j. sym (part-at m p n i (omega arith)) ∙ h i (omega (arith, part-length m p n (omega arith))),
+  λ i j. sym (part-at m p n i (omega arith)) ∙ h i (omega (arith, part-length p n m (omega arith))),
 )
 
 module _ (x : List ℕ) (i : ℕ) where

@@ -6,7 +6,7 @@ use mathlib.Core.List.{List, [], _∷_, reverse, reverseAux}
 use lib.Dec.{lit<}
 use lib.ListN.{drop}
 use lib.Bits.{bitXor, xor-lt, xor-comm, xor-zero-l}
-use Rattle.crc.specs.Check.{coefficients, remainder, checkOf, checkBytes}
+use Rattle.crc.specs.Check.{coefficients, remainder, checkBytes}
 use Rattle.crc.specs.Halves.{AllBytes, everyOther, lowHalf, highHalf}
 use Rattle.crc.proofs.Bytes.{all-reverse}
 use Rattle.crc.proofs.Turn.{bring-byte}

@@ -10,7 +10,6 @@ use borrow.Author.Tests.{ltb-true}
 use Rattle.format.specs.Lent.{bytesOf, marksOf, unmarked}
 use Rattle.base.proofs.Tests.{and-both}
 use Rattle.format.proofs.Cells.Opening.{unmarked-below as unmarked-bytes}
-use Rattle.format.proofs.Track.Pairs.{bytes-unmarked}
 
 -- The bytes of two lists of cells are joined as the cells are.
 pub bytes-append : (xs ys : List ℕ) → bytesOf (xs ++ ys) ≡ bytesOf xs ++ bytesOf ys

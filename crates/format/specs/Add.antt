@@ -1,16 +1,15 @@
 -- Add: one more sector after the last.
 use Prim.Native.Nat.{ℕ, suc, _+_, _*_, _%_}
-use mathlib.Core.Bool.{Bool, false, _&&_}
+use mathlib.Core.Bool.{false, _&&_}
 use mathlib.Core.List.{List, [], _∷_, _++_}
-use lib.ListN.{length, take, drop, replicate}
-use lib.Dec.{leb, eqb}
-use Rattle.base.specs.Pick.{pick}
+use lib.ListN.{length, take, replicate}
+use lib.Dec.{leb}
 use Rattle.format.specs.Answer.{lentWrong, sectorRepeated, sectorMissing, wantedWrong}
 use Rattle.format.specs.Judged.{Judged, good, refused, then, require}
-use Rattle.format.specs.Lent.{lentForReading, cells, bothLent}
+use Rattle.format.specs.Lent.{cells, bothLent}
 use Rattle.format.specs.Flag.{condition}
 use Rattle.format.specs.Home.{Home}
-use Rattle.format.specs.Sector.{Sector, openingLength, contentRight}
+use Rattle.format.specs.Sector.{Sector, contentRight}
 use Rattle.format.specs.Accept.{Placed, acceptCells, endOf, fromNumber}
 use Rattle.format.specs.Written.{gapAfter, writtenBehind, Pair, asPair}
 

@@ -1,6 +1,6 @@
 -- Correct: a new key and new data for the sector that carries S.
 use Prim.Native.Nat.{ℕ}
-use mathlib.Core.List.{List, [], _∷_, map}
+use mathlib.Core.List.{List, [], _∷_}
 use lib.ListN.{length, take}
 use Rattle.format.specs.Answer.{lentWrong, sectorMissing, wantedWrong}
 use Rattle.format.specs.Judged.{Judged, refused, then, require}

@@ -6,7 +6,7 @@ use mathlib.Core.List.{List, [], _∷_}
 use lib.ListN.{length}
 use lib.Dec.{leb}
 use Rattle.format.specs.Answer.{lentWrong}
-use Rattle.format.specs.Judged.{Judged, good, refused}
+use Rattle.format.specs.Judged.{Judged, good}
 use Rattle.format.specs.Lent.{lengthRight, lentForReading, cells}
 use Rattle.format.specs.Home.{findHome}
 use Rattle.format.specs.Candidate.{Candidate, standsAt, candidateAt, candidatesFrom, candidates}

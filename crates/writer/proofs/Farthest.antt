@@ -15,9 +15,8 @@ use Rattle.format.proofs.Written.Gap.{rule-most}
 use Rattle.format.proofs.Sector.ReadBack.{length-written}
 use Rattle.sectors.specs.declared.SectorAt.{SectorAt as SectorCode}
 use Rattle.sectors.specs.SectorAt.{lastFirstCount, opensFirst, sectorAt, asSectorAt}
-use Rattle.sectors.proofs.Rest.{opening-least}
+use Rattle.sectors.proofs.Rest.{opening-least, opens-high}
 use Rattle.sectors.specs.From.{SectorsFrom, Remaining}
-use Rattle.sectors.proofs.Rest.{opens-high}
 use Rattle.sectors.proofs.From.{Step, step-at, steps-end}
 use Rattle.writer.specs.Remaining.{farthest}
 

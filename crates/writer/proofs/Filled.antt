@@ -4,7 +4,7 @@ use Prim.Native.Nat.{ℕ, _+_, _-_, _≤_, _<_}
 use native.Mathlib.Omega.{arith}
 use mathlib.Core.Bool.{Bool, true, false}
 use mathlib.Core.List.{List, [], _++_, append-nil, append-assoc}
-use lib.ListN.{length, take, drop, replicate, length-append, length-replicate, length-drop, drop-of-length-le}
+use lib.ListN.{length, take, drop, replicate, length-append, length-replicate, drop-of-length-le}
 use lib.Seq.{take-at, drop-at, length-take-le}
 use lib.Dec.{lit<, eqb}
 use borrow.Author.Tests.{leb-true}
@@ -17,14 +17,9 @@ use Rattle.base.proofs.Tests.{cases, and-both}
 use Rattle.format.proofs.Cells.Opening.{unmarked-replicate}
 use Rattle.format.proofs.Track.Pairs.{length-bytes, length-marks, bytes-unmarked}
 use Rattle.encode.specs.Laid.{laidOver, laidAt, laidIf, laidAtIf}
-use Rattle.base.proofs.Lists.{part-all}
 use Rattle.encode.proofs.Laid.{laid-behind, laid-back-if}
 use Rattle.encode.proofs.Cells.{bytes-append, marks-append, marks-unmarked}
 use Rattle.writer.specs.Filled.{filledSpan}
-
--- A part that is lent from place a on has what is left behind a.
-pub part-length : (a : ℕ) (s : List ℕ) → length (take (length s - a) (drop a s)) ≡ length s - a
-part-length a s = ap length (part-all a s) ∙ length-drop a s
 
 -- A writer that answered true laid its list,
 pub wrote-over : (r : Bool) (xs old ys : List ℕ) → r ≡ true → ys ≡ laidIf r xs old → ys ≡ laidOver xs old

@@ -4,8 +4,8 @@ use Prim.Native.Nat.{ℕ, _+_, _-_, _≤_, _<_}
 use native.Mathlib.Omega.{arith}
 use mathlib.Core.Bool.{Bool, false}
 use mathlib.Core.List.{List, [], _∷_, _++_, append-assoc, append-nil}
-use lib.ListN.{length, take, drop, replicate, length-drop}
-use lib.Seq.{take-length, length-take-le}
+use lib.ListN.{length, take, drop, replicate}
+use lib.Seq.{take-length}
 use Rattle.base.specs.Pick.{pick}
 use Rattle.format.specs.Lent.{cells, bytesOf, marksOf}
 use Rattle.format.specs.Span.{joined, none}
@@ -194,14 +194,6 @@ module _ (rule : GapRule) (t m : List ℕ) (p at : ℕ) (nt nm F G : List ℕ) (
                 (qm ∙ ap (λ (z : Sector). laidAt at (marksOf (filledSpan (to - at) z)) nm) s)
                 (ap (λ (xs : List Placed). take at nm ++ marksOf (laterCells rule (length t - at) xs)) (sym (v .split)) ∙ i .marks);
           }
-
--- The n bytes that are lent from place a on.
-pub cut-is : (a n : ℕ) (s : List ℕ) → take (a + n - a) (drop a s) ≡ take n (drop a s)
-cut-is a n s = let e : a + n - a ≡ n = omega arith in ap (λ (k : ℕ). take k (drop a s)) e
-
--- Their number.
-pub cut-length : (a n : ℕ) (s : List ℕ) → a + n ≤ length s → length (take (a + n - a) (drop a s)) ≡ n
-cut-length a n s h = ap length (cut-is a n s) ∙ length-take-le n (drop a s) (omega (arith, length-drop a s))
 
 -- The writing has come from the places p and `at` to the places p' and `at'`.
 abbrev pub Writing : GapRule → List ℕ → List ℕ → ℕ → ℕ → List ℕ → List ℕ → ℕ → ℕ → List ℕ → List ℕ → Type 0

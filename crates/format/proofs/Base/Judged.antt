@@ -3,7 +3,6 @@ use mathlib.Core.Path.{_≡_, refl, sym, ap}
 use Prim.Native.Nat.{ℕ}
 use native.Mathlib.Omega.{arith}
 use mathlib.Core.Bool.{Bool, true, false}
-use Rattle.base.specs.Pick.{pick}
 use Rattle.base.proofs.Tests.{false-true}
 use Rattle.format.specs.Answer.{Answer}
 use Rattle.format.specs.Judged.{Judged, good, refused, then, require, answerOf}

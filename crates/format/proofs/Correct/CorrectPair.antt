@@ -1,5 +1,5 @@
 -- A correction of a lent pair: what it writes is accepted, and it has room exactly where the last block ends early enough.
-use mathlib.Core.Path.{_≡_, refl, sym, ap, ap₂, _∙_}
+use mathlib.Core.Path.{_≡_, sym, ap, ap₂, _∙_}
 use Prim.Native.Nat.{ℕ, _+_, _-_, _≤_, _<_}
 use native.Mathlib.Omega.{arith}
 use mathlib.Core.Bool.{true}
@@ -9,7 +9,7 @@ use lib.Seq.{length-take-le}
 use lib.Dec.{eqb}
 use borrow.Author.Tests.{le-leb, lt-leb}
 use Rattle.format.specs.Answer.{roomMissing}
-use Rattle.format.specs.Judged.{Judged, good, refused}
+use Rattle.format.specs.Judged.{good, refused}
 use Rattle.format.specs.Lent.{lengthRight, cells, bytesOf, marksOf, unmarked}
 use Rattle.format.specs.Home.{firstCountPlace}
 use Rattle.format.specs.Block.{leastGap}

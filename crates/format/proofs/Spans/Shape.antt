@@ -1,9 +1,9 @@
 -- What the laws say of spans and of sectors: spans as cutting gives them, spans without stray marks, sectors that are valid in a position.
 use mathlib.Core.Path.{_≡_}
-use Prim.Native.Nat.{ℕ, zero, suc, _+_, _≤_}
-use mathlib.Core.Bool.{Bool, true, false, _&&_}
+use Prim.Native.Nat.{ℕ, zero, suc, _≤_}
+use mathlib.Core.Bool.{true}
 use mathlib.Core.List.{List, [], _∷_}
-use lib.ListN.{length, drop}
+use lib.ListN.{length}
 use Rattle.format.specs.Lent.{unmarked}
 use Rattle.format.specs.Opening.{opens}
 use Rattle.format.specs.Flag.{countFlagRight}

@@ -1,13 +1,13 @@
 -- List gives a record for each sector of an accepted track, and a list of 67 records has room for them.
-use mathlib.Core.Path.{_≡_, ap, _∙_}
+use mathlib.Core.Path.{_≡_}
 use Prim.Native.Nat.{ℕ, _≤_, _<_}
 use mathlib.Core.List.{List, map}
 use lib.ListN.{length, length-map}
 use borrow.Author.Tests.{le-leb, lt-leb}
 use Rattle.format.specs.Answer.{Answer, lentWrong}
-use Rattle.format.specs.Judged.{Judged, good, refused}
+use Rattle.format.specs.Judged.{good, refused}
 use Rattle.format.specs.Accept.{Accepted, accept}
-use Rattle.format.specs.Listing.{Listed, listed, mostSectors, list}
+use Rattle.format.specs.Listing.{listed, mostSectors, list}
 
 -- The records are those of the accepted track's sectors, from left to right.
 pub list-records : (n : ℕ) (t m : List ℕ) (a : Accepted) → mostSectors ≤ n → accept t m ≡ good a → list n t m ≡ good (map listed (a .sectors))

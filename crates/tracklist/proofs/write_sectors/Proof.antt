@@ -1,6 +1,5 @@
 -- `tracklist::write_sectors` is safe and ends: it looks at each of the 67 records once.
 use Prim.Native.Nat.{_-_, _≤_}
-use native.Mathlib.Omega.{arith}
 use borrow.Author.Needs.{needs}
 use Rattle.tracklist.proofs.write_sectors.Statement.{statement}
 use Rattle.tracklist.proofs.write_sectors.Tie as tie

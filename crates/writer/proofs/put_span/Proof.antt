@@ -17,7 +17,8 @@ use Rattle.encode.proofs.Laid.{length-laid}
 use Rattle.encode.proofs.Room.{gap-fits}
 use Rattle.format.proofs.Sector.ReadBack.{length-written}
 use Rattle.encode.proofs.Sectors.{sector-fits}
-use Rattle.writer.proofs.Filled.{part-length, wrote-at, wrote-back, span-bytes, span-marks}
+use Rattle.writer.proofs.Filled.{wrote-at, wrote-back, span-bytes, span-marks}
+use Rattle.base.proofs.Lists.{part-all-length}
 use Rattle.writer.proofs.put_span.Statement.{statement}
 use Rattle.writer.proofs.put_span.Tie as tie
 
@@ -74,7 +75,7 @@ returns c =
     let pre = c .before .before .before .before .before .before .before .before .before .before .before .before .before .before .before .before .before .before .before .pre in
     let T = a .track .now in
     let M = a .marks .now in
-    let wrote : one .result ≡ true = one .ensures .0 ∙ sector-fits S _ _ n size (omega (arith, pre)) (omega (arith, pre)) (omega (arith, pre, part-length (a .p) T)) (omega (arith, pre, part-length (a .p) M)) in
+    let wrote : one .result ≡ true = one .ensures .0 ∙ sector-fits S _ _ n size (omega (arith, pre)) (omega (arith, pre)) (omega (arith, pre, part-all-length (a .p) T)) (omega (arith, pre, part-all-length (a .p) M)) in
     let T1 : List ℕ = putMid (a .p) (length T - a .p) T (one .last .0) in
     let M1 : List ℕ = putMid (a .p) (length M - a .p) M (one .last .1 .0) in
     let laidT : T1 ≡ laidAt (a .p) (bytesOf (writtenSector S)) T = wrote-back (one .result) (a .p) (bytesOf (writtenSector S)) T (one .last .0) wrote (one .ensures .1 .0) in

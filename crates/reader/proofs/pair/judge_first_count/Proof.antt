@@ -20,8 +20,8 @@ add-p c = search needs
 opens-plain-requires : tie.Need-opens-plain-requires
 opens-plain-requires c κs = search needs
 
-behind-opening-requires : tie.Need-behind-opening-requires
-behind-opening-requires c κs = search needs
+first-rest-requires : tie.Need-first-rest-requires
+first-rest-requires c κs = search needs
 
 judge-count-requires : tie.Need-judge-count-requires
 judge-count-requires c κs = search needs
@@ -32,7 +32,7 @@ returns c =
     let h = asHome (a .h) in
     let d = cells (a .track .now) (a .marks .now) in
     let k = c .before .before .judge-count in
-    let e = k .ensures ∙ ap (λ (r : List ℕ). answerOf (judgeCount h 0 unsettled (firstCountPlace (h .place)) r)) (c .before .before .before .behind-opening .ensures) in
+    let e = k .ensures ∙ ap (λ (r : List ℕ). answerOf (judgeCount h 0 unsettled (firstCountPlace (h .place)) r)) (c .before .before .before .first-rest .ensures) in
     let o = sym (c .before .before .before .before .before .opens-plain .ensures) ∙ c .before .before .before .before .if1 .taken in
     (sym (count-refused h d (asAnswer (k .result)) o e (c .if2 .taken)), tt)
 
@@ -45,7 +45,7 @@ returns-2 c =
     let h = asHome (a .h) in
     let d = cells (a .track .now) (a .marks .now) in
     let k = c .before .before .judge-count in
-    let e = k .ensures ∙ ap (λ (r : List ℕ). answerOf (judgeCount h 0 unsettled (firstCountPlace (h .place)) r)) (c .before .before .before .behind-opening .ensures) in
+    let e = k .ensures ∙ ap (λ (r : List ℕ). answerOf (judgeCount h 0 unsettled (firstCountPlace (h .place)) r)) (c .before .before .before .first-rest .ensures) in
     let o = sym (c .before .before .before .before .before .opens-plain .ensures) ∙ c .before .before .before .before .if1 .taken in
     (sym (count-right h d (asAnswer (k .result)) o e (c .if2 .left)), c .before .before .before .before .before .before .before .before .before .pre)
 
@@ -60,7 +60,7 @@ judge-first-count-spec =
     (tie.spec
     add-p
     opens-plain-requires
-    behind-opening-requires
+    first-rest-requires
     judge-count-requires
     returns
     first-count-missing-requires

@@ -10,7 +10,8 @@ use Rattle.format.specs.Accept.{Placed}
 use Rattle.sectors.specs.From.{SectorsFrom}
 use Rattle.encode.specs.Gap.{asRule}
 use Rattle.writer.specs.Remaining.{RoomFor}
-use Rattle.writer.proofs.Later.{Writing, writing-now, cut-is, cut-length, cut-asks, going-start, going-within, going-end, going-lengths, going-parts, going-onward, going-room, going-next}
+use Rattle.writer.proofs.Later.{Writing, writing-now, cut-asks, going-start, going-within, going-end, going-lengths, going-parts, going-onward, going-room, going-next}
+use Rattle.base.proofs.Lists.{cut-is, cut-length}
 use Rattle.writer.proofs.correcting.write_later.Statement.{statement}
 use Rattle.writer.proofs.correcting.write_later.Tie as tie
 

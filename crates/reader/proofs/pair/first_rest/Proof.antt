@@ -33,8 +33,8 @@ returns-2 c =
     let s = c .before .before .before .before .span-at in
     c .rest-of .ensures ∙ sym (span-rest-bytes 6 (a .p) (s .result .length - 6) (a .track .now) (a .marks .now) (omega (arith, s .ensures .0)))
 
-pub behind-opening-spec : {M : Type 1} → statement M
-behind-opening-spec =
+pub first-rest-spec : {M : Type 1} → statement M
+first-rest-spec =
     tie.close
     (tie.spec
     span-at-requires
