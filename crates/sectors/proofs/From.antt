@@ -16,7 +16,7 @@ use Rattle.format.specs.Span.{runsToIndex, spanLength, spanRest, joined, none, 
 use Rattle.format.specs.Sector.{Sector, openingLength, isFirst, settle, readSpan}
 use Rattle.format.specs.Accept.{Placed, placedFrom, Accepted, spansOf, accept, endOf}
 use Rattle.format.specs.Listing.{listed}
-use Rattle.base.proofs.Tests.{and-both, false-true}
+use Rattle.base.proofs.Tests.{and-both}
 use Rattle.format.proofs.Spans.Shape.{Shape}
 use Rattle.format.proofs.Spans.Cutting.{joined-spans}
 use Rattle.format.proofs.Track.HomeLocal.{home-window}
@@ -122,11 +122,6 @@ accepted-start t m a e =
 pub accepted-steps : (t m : List ℕ) (a : Accepted) → accept t m ≡ good a → SectorsFrom t m (firstCountPlace (a .home .place)) (a .sectors)
 accepted-steps t m a e = accepted-start t m a e .steps
 
--- The place that is come to lies on the track or is its end.
-pub steps-within : (t m : List ℕ) (p : ℕ) (xs : List Placed) → SectorsFrom t m p xs → p ≤ length (cells t m)
-steps-within t m p [] e = omega arith
-steps-within t m p (x ∷ xs) (e, r) = omega arith
-
 -- At the end there is no sector left.
 pub steps-end : (t m : List ℕ) (p : ℕ) (xs : List Placed) → SectorsFrom t m p xs → length (cells t m) ≤ p → xs ≡ []
 steps-end t m p [] e l = refl
@@ -214,21 +209,3 @@ pub step-at : (t m : List ℕ) (p : ℕ) (xs : List Placed) (s : SectorCode) →
     → asSectorAt s ≡ sectorAt p (cells t m) → Step t m p xs s
 step-at t m p [] s f l e = absurd (omega arith)
 step-at t m p (x ∷ xs) s (v, r) l e = step-made t m p x xs s v r e
-
--- A span that runs to index is the last one.
-pub step-last : (t m : List ℕ) (p : ℕ) (xs : List Placed) (s : SectorCode) (v : Step t m p xs s) → s .last ≡ true
-    → (v .later ≡ []) × (s .next ≡ length (cells t m))
-step-last t m p xs s v e = go (v .later) (sym (v .last-is) ∙ e) (v .rest)
-  where
-    go : (ys : List Placed) → none ys ≡ true → SectorsFrom t m (s .next) ys → (ys ≡ []) × (s .next ≡ length (cells t m))
-    go [] n r = (refl, r)
-    go (y ∷ ys) n r = false-true n
-
--- After any other span a sector follows.
-pub step-more : (t m : List ℕ) (p : ℕ) (xs : List Placed) (s : SectorCode) (v : Step t m p xs s) → s .last ≡ false
-    → (none (v .later) ≡ false) × (s .next < length (cells t m))
-step-more t m p xs s v e = go (v .later) (sym (v .last-is) ∙ e) (v .rest)
-  where
-    go : (ys : List Placed) → none ys ≡ false → SectorsFrom t m (s .next) ys → (none ys ≡ false) × (s .next < length (cells t m))
-    go [] n r = false-true (sym n)
-    go (y ∷ ys) n (w, r) = (refl, omega arith)
