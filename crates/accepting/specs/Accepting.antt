@@ -6,7 +6,7 @@ use mathlib.Core.List.{List, [], _∷_}
 use lib.ListN.{length, drop}
 use Rattle.format.specs.Answer.{asAnswer, sectorRepeated}
 use Rattle.format.specs.Judged.{Judged, good, refused, require}
-use Rattle.format.specs.Layout.{homeFirst, homeLast, firstCountLength}
+use Rattle.format.specs.Layout.{longestTrack, homeFirst, homeLast, firstCountLength}
 use Rattle.format.specs.Lent.{cells}
 use Rattle.format.specs.Home.{Home}
 use Rattle.format.specs.Count.{countNumber}
@@ -37,14 +37,14 @@ homeInWindow (Refused a) = Unit {0}
 -- What is left of a track from place p on: nothing, or it starts with a whole opening; and no mark of it is stray.
 pub record LaterSpans (p : ℕ) (t m : List ℕ) : Type 0 where
   pub lengths : length m ≡ length t
-  pub within : p + length t ≤ 4002
+  pub within : p + length t ≤ longestTrack
   pub opened : beforeOpening (cells t m) ≡ []
   pub clean : cleanSpans 1 (laterSpans (cells t m)) ≡ true
 
 -- A lent track without stray marks, on which sector 0 stands at place p.
 pub record NoStrayMark (p : ℕ) (t m : List ℕ) : Type 0 where
   pub lengths : length m ≡ length t
-  pub within : length t ≤ 4002
+  pub within : length t ≤ longestTrack
   pub reach : p ≤ length t
   pub judged : judgeMarks (p + firstCountLength) 0 0 (cells t m) ≡ good tt
 

@@ -6,6 +6,7 @@ ghost use Prim.Native.Nat.{_≤_};
 ghost use lib.ListN.{drop};
 ghost use Rattle.format.specs.Answer.{asAnswer};
 ghost use Rattle.format.specs.Judged.{answerOf, good, then};
+ghost use Rattle.format.specs.Layout.{homeFirst, homeLast};
 ghost use Rattle.format.specs.Lent.{lentForReading, cells};
 ghost use Rattle.format.specs.Opening.{startsWith, plainOpening};
 ghost use Rattle.format.specs.Count.{unsettled, settled};
@@ -121,7 +122,7 @@ fn judge_numbers(track: &[u8], marks: &[u8], p: usize) -> format::Answer
 // The answer for a track behind its home h: 5, then the sectors, then 13.
 fn judge_behind(track: &[u8], marks: &[u8], h: Home) -> format::Answer
     requires { ⌜ lentForReading (now track) (now marks) ≡ true ⌝ }
-    requires { ⌜ (23 ≤ h .place) × (h .place ≤ 37) ⌝ }
+    requires { ⌜ (homeFirst ≤ h .place) × (h .place ≤ homeLast) ⌝ }
     ensures { λ a. ⌜ asAnswer a ≡ answerOf (judgeBehind (asHome h) (cells (now (track .entry)) (now (marks .entry)))) ⌝ }
 {
     let p = h.place + HOME_TO_COUNT;

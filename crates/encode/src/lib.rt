@@ -3,7 +3,7 @@ ghost use mathlib.Core.Path.{_≡_};
 ghost use mathlib.Core.List.{_++_};
 ghost use Prim.Native.Nat.{_+_, _-_, _≤_};
 ghost use lib.ListN.{length, take, replicate};
-ghost use Rattle.format.specs.Layout.{headLength};
+ghost use Rattle.format.specs.Layout.{gapLength, countTail, headLength};
 ghost use Rattle.format.specs.Lent.{bytesOf, marksOf};
 ghost use Rattle.format.specs.Opening.{closing};
 ghost use Rattle.format.specs.Sector.{openingLength};
@@ -158,8 +158,8 @@ fn put_field(t: &mut [u8], at: usize, info: &[u8]) -> usize
 
 // Writes the gap after a count and after a key, nine FF and two 00, from place at on.
 fn put_gap(t: &mut [u8], at: usize) -> usize
-    requires { ⌜ at + 11 ≤ length (now t) ⌝ }
-    ensures place { λ r. ⌜ r ≡ at + 11 ⌝ }
+    requires { ⌜ at + gapLength ≤ length (now t) ⌝ }
+    ensures place { λ r. ⌜ r ≡ at + gapLength ⌝ }
     ensures bytes { λ _. ⌜ now (t .exit) ≡ laidAt at innerGap (now (t .entry)) ⌝ }
 {
     let p = put_run(t, at, 9, 0xFF);
@@ -241,8 +241,8 @@ fn put_count(
 ) -> usize
     requires { ⌜ length (now key) ≤ 255 ⌝ }
     requires { ⌜ length (now body) ≤ 65535 ⌝ }
-    requires { ⌜ openingLength first + 12 ≤ length (now t) ⌝ }
-    ensures place { λ r. ⌜ r ≡ openingLength first + 12 ⌝ }
+    requires { ⌜ openingLength first + countTail ≤ length (now t) ⌝ }
+    ensures place { λ r. ⌜ r ≡ openingLength first + countTail ⌝ }
     ensures bytes { λ _. ⌜ now (t .exit) ≡ laidAt 0 (countBytes (sectorFrom first flag cylinder head s (now (key .entry)) (now (body .entry)))) (now (t .entry)) ⌝ }
 {
     let p = put_opening(t, first);

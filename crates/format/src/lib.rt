@@ -36,7 +36,7 @@ pub fn home_missing() -> Answer
 {
     Answer {
         number: 2,
-        place: 23,
+        place: layout::HOME_FIRST,
     }
 }
 

@@ -7,6 +7,8 @@ ghost use Rattle.format.specs.Sector.{openingLength};
 ghost use Rattle.format.specs.Candidate.{firstOpensAt, candidatesFrom};
 ghost use Rattle.search.specs.Place.{judgedPlace};
 ghost use Rattle.reader.specs.Finding.{standing, passing, standingAt};
+use format::layout::COUNT_TAIL;
+use format::layout::HOME_TO_COUNT;
 
 // A count that opens: its place, is it sector 0's, does its span run to index, and how many bytes follow the opening in the span.
 pub struct Candidate {
@@ -50,10 +52,10 @@ fn first_opens_at(track: &[u8], marks: &[u8], home: search::Found, p: usize) -> 
 {
     match home {
         search::Found::At(h) => {
-            if p < 25 {
+            if p < HOME_TO_COUNT {
                 return false;
             }
-            if p - 25 != h {
+            if p - HOME_TO_COUNT != h {
                 return false;
             }
             search::opens_plain(track, marks, p)
@@ -72,7 +74,7 @@ fn passing_at(track: &[u8], marks: &[u8], first: bool, p: usize) -> Standing
         return Standing::Not;
     }
     let size = span.length - o;
-    if size < 12 {
+    if size < COUNT_TAIL {
         return Standing::Not;
     }
     let from = p + o;

@@ -2,6 +2,7 @@
 ghost use mathlib.Core.Path.{_≡_};
 ghost use Prim.Native.Nat.{_≤_};
 ghost use lib.ListN.{length, getD, drop};
+ghost use Rattle.format.specs.Layout.{homeFirst, homeLast};
 ghost use Rattle.format.specs.Lent.{cells};
 ghost use Rattle.format.specs.Address.{sameAddress};
 ghost use Rattle.format.specs.Span.{spanRest};
@@ -54,7 +55,7 @@ fn first_rest<'a>(track: &'a [u8], marks: &[u8], p: usize) -> &'a [u8]
 
 // The home h of a track whose count of sector 0 is right: 6 where it does not open, 9 where it does not fit, then 7, then 8.
 fn judge_first_count(track: &[u8], marks: &[u8], h: Home) -> HomeJudged
-    requires { ⌜ (23 ≤ h .place) × (h .place ≤ 37) ⌝ }
+    requires { ⌜ (homeFirst ≤ h .place) × (h .place ≤ homeLast) ⌝ }
     ensures { λ r. ⌜ judgedHome r ≡ judgeFirstCount (asHome h) (cells (now (track .entry)) (now (marks .entry))) ⌝ }
     ensures { λ r. ⌜ homeInWindow r ⌝ }
 {
@@ -99,7 +100,7 @@ fn cell_at(track: &[u8], marks: &[u8], i: usize) -> usize
 
 // Whether sector 0's count behind home h names the track a.
 fn names(track: &[u8], marks: &[u8], h: Home, a: Address) -> bool
-    requires { ⌜ h .place ≤ 37 ⌝ }
+    requires { ⌜ h .place ≤ homeLast ⌝ }
     ensures { λ b. ⌜ b ≡ sameAddress (asAddress a) (namedTrack (asHome h) (cells (now (track .entry)) (now (marks .entry)))) ⌝ }
 {
     let p = h.place + HOME_TO_COUNT_INFO;
@@ -120,8 +121,8 @@ fn pair_agrees(
     second_marks: &[u8],
     g: Home,
 ) -> bool
-    requires { ⌜ h .place ≤ 37 ⌝ }
-    requires { ⌜ g .place ≤ 37 ⌝ }
+    requires { ⌜ h .place ≤ homeLast ⌝ }
+    requires { ⌜ g .place ≤ homeLast ⌝ }
     ensures { λ b. ⌜ b ≡ pairAgrees (asHome h) (cells (now (track .entry)) (now (marks .entry))) (asHome g) (cells (now (second .entry)) (now («second_marks» .entry))) ⌝ }
 {
     if g.flag % 4 != 1 {
@@ -146,7 +147,7 @@ fn find_on_second(
     s: u8,
     wanted: Wanted,
 ) -> Paired
-    requires { ⌜ h .place ≤ 37 ⌝ }
+    requires { ⌜ h .place ≤ homeLast ⌝ }
     ensures { λ r. ⌜ asPaired r ≡ findOnSecond s (asWanted wanted) (asHome h) (cells (now (track .entry)) (now (marks .entry))) (now (second .entry)) (now («second_marks» .entry)) (accept (now (second .entry)) (now («second_marks» .entry))) ⌝ }
     ensures { λ r. ⌜ pairWithin r (length (now (track .entry))) (length (now (second .entry))) ⌝ }
 {

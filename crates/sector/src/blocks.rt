@@ -78,7 +78,8 @@ fn least_gap(last: bool) -> usize
 fn blocks_fit(last: bool, r: &[u8]) -> bool
     ensures { λ b. ⌜ b ≡ blocksFit last (now (r .entry)) ⌝ }
 {
-    block_end(r) + least_gap(last) <= r.len()
+    let blocks = blocks_in(r);
+    blocks.end + least_gap(last) <= r.len()
 }
 
 // Whether a block of n information bytes stands here: opening, information, check and closing byte.
@@ -110,11 +111,12 @@ fn key_right(r: &[u8]) -> bool
 fn data_right(r: &[u8]) -> bool
     ensures { λ b. ⌜ b ≡ dataRight (now (r .entry)) ⌝ }
 {
-    let at = data_offset(r);
+    let blocks = blocks_in(r);
+    let at = blocks.data_offset;
     if r.len() < at {
         return false;
     }
-    let n = data_length(r);
+    let n = blocks.data_length;
     if n == 0 {
         starts_empty(&r[at..])
     } else {
@@ -151,6 +153,7 @@ pub fn judge_data(first: bool, p: u32, r: &[u8]) -> format::Answer
     if data_right(r) {
         format::done()
     } else {
-        format::data_wrong(p as usize + opening_length(first) + data_offset(r))
+        let blocks = blocks_in(r);
+        format::data_wrong(p as usize + opening_length(first) + blocks.data_offset)
     }
 }

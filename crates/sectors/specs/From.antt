@@ -4,6 +4,7 @@ use Prim.Native.Nat.{ℕ, _+_, _≤_, _<_}
 use mathlib.Core.Bool.{Bool}
 use mathlib.Core.List.{List, [], _∷_}
 use lib.ListN.{length, take, drop}
+use Rattle.format.specs.Layout.{longestTrack}
 use Rattle.format.specs.Lent.{cells}
 use Rattle.format.specs.Block.{keyOffset, keySize, leastGap}
 use Rattle.format.specs.Span.{none}
@@ -55,4 +56,4 @@ pub record Remaining (t m : List ℕ) (p : ℕ) : Type 0 where
   pub sectors : List Placed
   pub steps : SectorsFrom t m p sectors
   pub cells-length : length (cells t m) ≡ length t
-  pub length-most : length t ≤ 4002
+  pub length-most : length t ≤ longestTrack

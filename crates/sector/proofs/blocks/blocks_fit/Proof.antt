@@ -6,28 +6,31 @@ use lib.ListN.{length}
 use lib.Dec.{leb}
 use Rattle.format.specs.Block.{blocksFit}
 use Rattle.sector.proofs.Block.{gap-le}
+use Rattle.sector.proofs.Measured.{end-in}
 use Rattle.format.proofs.Sector.BlockEnd.{end-lt}
 use borrow.Author.Needs.{needs}
 use Rattle.sector.proofs.blocks.blocks_fit.Statement.{statement}
 use Rattle.sector.proofs.blocks.blocks_fit.Tie as tie
 
-block-end-requires : tie.Need-block-end-requires
-block-end-requires c κs = search needs
+blocks-in-requires : tie.Need-blocks-in-requires
+blocks-in-requires c κs = search needs
 
 least-gap-requires : tie.Need-least-gap-requires
 least-gap-requires c κs = search needs
 
 add-result : tie.Need-add-result
 add-result c =
-    let a = c .before .before .before .args in
-    let g = c .before .before .shared-slice-known .given in
-    omega (arith, end-lt (a .r .now) (omega (arith, g 6)) (omega (arith, g 7)) (omega (arith, g 8)), gap-le (a .last))
+    let s = c .before .before in
+    let a = s .before .before .args in
+    let g = s .before .shared-slice-known .given in
+    omega (arith, end-in _ (a .r .now) (s .blocks-in .ensures), end-lt (a .r .now) (omega (arith, g 6)) (omega (arith, g 7)) (omega (arith, g 8)), gap-le (a .last))
 
 returns : tie.Need-returns
 unfolding blocksFit
 returns c =
-    let r = c .before .before .before .args .r .now in
-    ap₂ (λ (x y : ℕ). leb (x + y) (length r)) (c .before .block-end .ensures) (c .least-gap .ensures)
+    let s = c .before .before in
+    let r = s .before .before .args .r .now in
+    ap₂ (λ (x y : ℕ). leb (x + y) (length r)) (end-in _ r (s .blocks-in .ensures)) (c .before .least-gap .ensures)
 
 pub blocks-fit-spec : {M : Type 1} → statement M
-blocks-fit-spec = tie.close (tie.spec block-end-requires least-gap-requires add-result returns)
+blocks-fit-spec = tie.close (tie.spec blocks-in-requires least-gap-requires add-result returns)

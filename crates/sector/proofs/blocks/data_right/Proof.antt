@@ -1,21 +1,19 @@
 -- `data_right` meets its contract: no room for the block, the block where DL = 0, or a block.
 use mathlib.Core.Path.{sym, _∙_}
 use native.Mathlib.Omega.{arith}
+use Rattle.sector.proofs.Measured.{data-length-in, data-offset-in}
 use Rattle.sector.proofs.Block.{data-none, data-some, data-short}
 use borrow.Author.Needs.{needs}
 use Rattle.sector.proofs.blocks.data_right.Statement.{statement}
 use Rattle.sector.proofs.blocks.data_right.Tie as tie
 
-data-offset-requires : tie.Need-data-offset-requires
-data-offset-requires c κs = search needs
+blocks-in-requires : tie.Need-blocks-in-requires
+blocks-in-requires c κs = search needs
 
 returns : tie.Need-returns
 returns c =
-    let e = c .before .data-offset .ensures in
-    sym (data-short (c .before .before .before .args .r .now) (omega arith))
-
-data-length-requires : tie.Need-data-length-requires
-data-length-requires c κs = search needs
+    let r = c .before .before .before .args .r .now in
+    sym (data-short r (omega (arith, data-offset-in _ r (c .before .blocks-in .ensures))))
 
 sub-starts-empty : tie.Need-sub-starts-empty
 sub-starts-empty c = search needs
@@ -43,23 +41,22 @@ block-right-requires c κs = search needs
 
 returns-2 : tie.Need-returns-2
 returns-2 c =
-    let o = c .before .before .before .before .before .data-offset in
-    c .starts-empty .ensures
-    ∙ data-none (c .before .before .before .before .before .before .before .args .r .now) (o .result) (o .ensures) (sym (c .before .before .before .data-length .ensures) ∙ c .before .before .if2 .taken)
+    let b = c .before .before .before .before .blocks-in in
+    let r = c .before .before .before .before .before .before .args .r .now in
+    c .starts-empty .ensures ∙ data-none r (b .result .«data_offset») (data-offset-in _ r (b .ensures)) (sym (data-length-in _ r (b .ensures)) ∙ c .before .before .if2 .taken)
 
 returns-3 : tie.Need-returns-3
 returns-3 c =
-    let o = c .before .before .before .before .before .data-offset in
-    let k = c .before .before .before .data-length in
-    c .block-right .ensures ∙ data-some (c .before .before .before .before .before .before .before .args .r .now) (o .result) (o .ensures) (k .result) (k .ensures) (c .before .before .if2 .left)
+    let b = c .before .before .before .before .blocks-in in
+    let r = c .before .before .before .before .before .before .args .r .now in
+    c .block-right .ensures ∙ data-some r (b .result .«data_offset») (data-offset-in _ r (b .ensures)) (b .result .«data_length») (data-length-in _ r (b .ensures)) (c .before .before .if2 .left)
 
 pub data-right-spec : {M : Type 1} → statement M
 data-right-spec =
     tie.close
     (tie.spec
-    data-offset-requires
+    blocks-in-requires
     returns
-    data-length-requires
     sub-starts-empty
     part-starts-empty-start
     part-starts-empty-end

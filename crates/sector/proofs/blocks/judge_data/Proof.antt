@@ -9,6 +9,7 @@ use Rattle.format.specs.Sector.{openingLength}
 use Rattle.format.proofs.Sector.BlockEnd.{offset-lt}
 use Rattle.format.proofs.Sector.BlocksJudged.{part-right, part-wrong}
 use Rattle.sector.proofs.Block.{opening-le}
+use Rattle.sector.proofs.Measured.{data-offset-in}
 use borrow.Author.Needs.{needs}
 use Rattle.sector.proofs.blocks.judge_data.Statement.{statement}
 use Rattle.sector.proofs.blocks.judge_data.Tie as tie
@@ -23,15 +24,16 @@ opening-length-requires : tie.Need-opening-length-requires
 opening-length-requires c κs = search needs
 
 add-data-wrong : tie.Need-add-data-wrong
-add-data-wrong c = omega (arith, opening-le (c .before .before .before .before .args .first))
+add-data-wrong c = omega (arith, opening-le (c .before .before .before .before .before .args .first))
 
-data-offset-requires : tie.Need-data-offset-requires
-data-offset-requires c κs = search needs
+blocks-in-requires : tie.Need-blocks-in-requires
+blocks-in-requires c κs = search needs
 
 add-data-wrong-2 : tie.Need-add-data-wrong-2
 add-data-wrong-2 c =
-    let s = c .before .before .before .before in
-    omega (arith, opening-le (s .before .args .first), offset-lt (s .before .args .r .now) (omega (arith, s .shared-slice-known .given 6)))
+    let s = c .before .before .before .before .before in
+    let a = s .before .args in
+    omega (arith, opening-le (a .first), data-offset-in _ (a .r .now) (c .before .before .blocks-in .ensures), offset-lt (a .r .now) (omega (arith, s .shared-slice-known .given 6)))
 
 data-wrong-requires : tie.Need-data-wrong-requires
 data-wrong-requires c κs = search needs
@@ -43,10 +45,10 @@ returns c =
 
 returns-2 : tie.Need-returns-2
 returns-2 c =
-    let a = c .before .before .before .before .before .before .args in
+    let a = c .before .before .before .before .before .before .before .args in
     c .data-wrong .ensures
-    ∙ ap₂ (λ (x y : ℕ). dataWrong (a .p + x + y)) (c .before .before .opening-length .ensures) (c .before .data-offset .ensures)
-    ∙ sym (ap answerOf (part-wrong theData (a .p + openingLength (a .first)) (a .r .now) (sym (c .before .before .before .before .data-right .ensures) ∙ c .before .before .before .if1 .left)))
+    ∙ ap₂ (λ (x y : ℕ). dataWrong (a .p + x + y)) (c .before .before .opening-length .ensures) (data-offset-in _ (a .r .now) (c .before .before .before .blocks-in .ensures))
+    ∙ sym (ap answerOf (part-wrong theData (a .p + openingLength (a .first)) (a .r .now) (sym (c .before .before .before .before .before .data-right .ensures) ∙ c .before .before .before .before .if1 .left)))
 
 pub judge-data-spec : {M : Type 1} → statement M
 judge-data-spec =
@@ -54,9 +56,9 @@ judge-data-spec =
     (tie.spec
     data-right-requires
     done-requires
+    blocks-in-requires
     opening-length-requires
     add-data-wrong
-    data-offset-requires
     add-data-wrong-2
     data-wrong-requires
     returns
