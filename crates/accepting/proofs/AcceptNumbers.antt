@@ -147,10 +147,6 @@ module _ (t m : List ℕ) (p : ℕ) (u : NoStrayMark p t m) (o : startsWith plai
       ap (λ (z : SectorAt). z .number) e ∙ number-at true p (cells t m) (omega (arith, u .reach, u .within)) (opens-low p (window .1))
       ∙ ap (λ (z : List ℕ). countNumber z) (span-rest-bytes 6 p (p + (x .next - p) - (p + 6)) t m j ∙ zero-front .bytes)
 
-  -- Where the next sector starts, or the track ends.
-  pub zero-within : x .next ≤ length t
-  zero-within = omega (arith, zero-front .fits, zero-next)
-
   -- A sector that follows opens behind the last place of sector 0's count.
   pub zero-behind : x .next < length t → lastFirstCount < x .next
   zero-behind h = let k : 18 ≤ x .next - p = zero-front .reaches (omega (arith, zero-next)) in omega (arith, window .0)
