@@ -80,7 +80,7 @@ fn part_in(wanted: Wanted, q: usize, r: &[u8]) -> Part
     requires { ⌜ q ≤ 4010 ⌝ }
     ensures { λ x. ⌜ asPart x ≡ partIn (asWanted wanted) q (now (r .entry)) ⌝ }
 {
-    let blocks = sector::blocks_in(r);
+    let blocks = sector::measured_in(r);
     match wanted {
         Wanted::TheKey => part_at(q + sector::KEY_OFFSET + PLAIN, blocks.key_length),
         Wanted::TheData => part_at(q + blocks.data_offset + PLAIN, blocks.data_length),

@@ -5,10 +5,10 @@ use mathlib.Core.List.{List}
 use Rattle.format.specs.Count.{keyLength, dataLength}
 use Rattle.format.specs.Block.{dataOffset, blockEnd}
 use Rattle.sector.specs.Measured.{Measured, measuredIn, asMeasured}
-use Rattle.sector.specs.declared.blocks.Blocks.{Blocks}
+use Rattle.sector.specs.declared.blocks.Measured.{Measured as MeasuredCode}
 
 -- The measures b are those of r.
-module _ (b : Blocks) (r : List ℕ) (e : asMeasured b ≡ measuredIn r) where
+module _ (b : MeasuredCode) (r : List ℕ) (e : asMeasured b ≡ measuredIn r) where
   -- KL.
   pub key-length-in : b .«key_length» ≡ keyLength r
   unfolding measuredIn

@@ -3,7 +3,7 @@ use Prim.Native.Nat.{ℕ}
 use mathlib.Core.List.{List}
 use Rattle.format.specs.Count.{keyLength, dataLength}
 use Rattle.format.specs.Block.{dataOffset, blockEnd}
-use Rattle.sector.specs.declared.blocks.Blocks.{Blocks}
+use Rattle.sector.specs.declared.blocks.Measured.{Measured as MeasuredCode}
 
 -- KL, DL, and the offsets at which the data block opens and ends.
 pub record Measured : Type 0 where
@@ -18,7 +18,7 @@ measuredIn r =
     record { keyLength = keyLength r; dataLength = dataLength r; dataOffset = dataOffset r; end = blockEnd r }
 
 -- What a value of the code says.
-abbrev pub asMeasured : Blocks → Measured
+abbrev pub asMeasured : MeasuredCode → Measured
 asMeasured b =
     record {
       keyLength = b .«key_length»;

@@ -23,7 +23,7 @@ use format::layout::PLAIN;
 pub const KEY_OFFSET: usize = COUNT_TO_BLOCK;
 
 // What follows a count's opening, measured: KL, DL, and the offsets at which the data block opens and ends.
-pub struct Blocks {
+pub struct Measured {
     pub key_length: usize,
     pub data_length: usize,
     pub data_offset: usize,
@@ -56,10 +56,10 @@ fn block_end(r: &[u8]) -> usize
 }
 
 // The measures of what follows a count's opening.
-pub fn blocks_in(r: &[u8]) -> Blocks
+pub fn measured_in(r: &[u8]) -> Measured
     ensures { λ b. ⌜ asMeasured b ≡ measuredIn (now (r .entry)) ⌝ }
 {
-    Blocks {
+    Measured {
         key_length: key_length(r),
         data_length: data_length(r),
         data_offset: data_offset(r),
@@ -78,7 +78,7 @@ fn least_gap(last: bool) -> usize
 fn blocks_fit(last: bool, r: &[u8]) -> bool
     ensures { λ b. ⌜ b ≡ blocksFit last (now (r .entry)) ⌝ }
 {
-    let blocks = blocks_in(r);
+    let blocks = measured_in(r);
     blocks.end + least_gap(last) <= r.len()
 }
 
@@ -111,7 +111,7 @@ fn key_right(r: &[u8]) -> bool
 fn data_right(r: &[u8]) -> bool
     ensures { λ b. ⌜ b ≡ dataRight (now (r .entry)) ⌝ }
 {
-    let blocks = blocks_in(r);
+    let blocks = measured_in(r);
     let at = blocks.data_offset;
     if r.len() < at {
         return false;
@@ -153,7 +153,7 @@ pub fn judge_data(first: bool, p: u32, r: &[u8]) -> format::Answer
     if data_right(r) {
         format::done()
     } else {
-        let blocks = blocks_in(r);
+        let blocks = measured_in(r);
         format::data_wrong(p as usize + opening_length(first) + blocks.data_offset)
     }
 }

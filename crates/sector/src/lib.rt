@@ -10,12 +10,12 @@ pub mod bytes;
 pub mod count;
 pub mod fields;
 
-pub use blocks::Blocks;
 pub use blocks::KEY_OFFSET;
-pub use blocks::blocks_in;
+pub use blocks::Measured;
 pub use blocks::judge_data;
 pub use blocks::judge_fit;
 pub use blocks::judge_key;
+pub use blocks::measured_in;
 pub use bytes::byte_at;
 pub use bytes::closed_after;
 pub use count::Named;

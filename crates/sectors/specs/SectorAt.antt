@@ -70,7 +70,7 @@ lastFirstCount = homeLast + homeToCount
 unfoldable pub opensFirst : ℕ → Bool
 opensFirst p = leb p lastFirstCount
 
--- What follows the count's opening at place p in its span.
+-- The rest of the span of the count that opens at place p.
 unfoldable pub restAt : ℕ → List ℕ → List ℕ
 restAt p c = spanRest (openingLength (opensFirst p)) (drop p c)
 

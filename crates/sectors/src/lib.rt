@@ -40,7 +40,7 @@ fn sector_in(q: usize, next: usize, last: bool, r: &[u8]) -> SectorAt
     requires { ⌜ q ≤ 4010 ⌝ }
     ensures { λ s. ⌜ asSectorAt s ≡ sectorFields q next last (now (r .entry)) ⌝ }
 {
-    let blocks = sector::blocks_in(r);
+    let blocks = sector::measured_in(r);
     let key_length = blocks.key_length;
     let data_length = blocks.data_length;
     let end = q + blocks.end;

@@ -13,15 +13,15 @@ use borrow.Author.Needs.{needs}
 use Rattle.sectors.proofs.sector_in.Statement.{statement}
 use Rattle.sectors.proofs.sector_in.Tie as tie
 
-blocks-in-requires : tie.Need-blocks-in-requires
-blocks-in-requires c κs = search needs
+measured-in-requires : tie.Need-measured-in-requires
+measured-in-requires c κs = search needs
 
 add-end : tie.Need-add-end
 add-end c =
     let s = c .before in
     let g = s .before .shared-slice-known .given in
     let r = s .before .before .args .r .now in
-    omega (arith, end-in _ r (s .blocks-in .ensures), end-lt r (omega (arith, g 6)) (omega (arith, g 7)) (omega (arith, g 8)))
+    omega (arith, end-in _ r (s .measured-in .ensures), end-lt r (omega (arith, g 6)) (omega (arith, g 7)) (omega (arith, g 8)))
 
 add-key-place : tie.Need-add-key-place
 add-key-place c = search needs
@@ -39,13 +39,13 @@ add-t15 : tie.Need-add-t15
 add-t15 c =
     let s = c .before .before .before .before .before in
     let r = s .before .before .args .r .now in
-    omega (arith, data-offset-in _ r (s .blocks-in .ensures), offset-lt r (omega (arith, s .before .shared-slice-known .given 6)))
+    omega (arith, data-offset-in _ r (s .measured-in .ensures), offset-lt r (omega (arith, s .before .shared-slice-known .given 6)))
 
 add-t16 : tie.Need-add-t16
 add-t16 c =
     let s = c .before .before .before .before .before in
     let r = s .before .before .args .r .now in
-    omega (arith, data-offset-in _ r (s .blocks-in .ensures), offset-lt r (omega (arith, s .before .shared-slice-known .given 6)))
+    omega (arith, data-offset-in _ r (s .measured-in .ensures), offset-lt r (omega (arith, s .before .shared-slice-known .given 6)))
 
 address-in-requires : tie.Need-address-in-requires
 address-in-requires c κs = search needs
@@ -54,8 +54,8 @@ returns : tie.Need-returns
 returns c =
     let s = c .before .before .before .before .before .before in
     let a = s .before .before .args in
-    let e = s .blocks-in .ensures in
-    let k = s .blocks-in .result .«key_length» in
+    let e = s .measured-in .ensures in
+    let k = s .measured-in .result .«key_length» in
     let v = c .before .before .before .before .if1 .key-place in
     let w : v ≡ pick (eqb k 0) 0 (a .q + keyOffset + 6) =
     ⊎-elim (λ u. key-place-none k (a .q) v (u .0 .taken) (u .1)) (λ u. key-place-some k (a .q) v (u .0 .left) (u .1)) (c .before .before .before .before .if1 .came) in
@@ -75,7 +75,7 @@ pub sector-in-spec : {M : Type 1} → statement M
 sector-in-spec =
     tie.close
     (tie.spec
-    blocks-in-requires
+    measured-in-requires
     add-end
     add-key-place
     add-key-place-2

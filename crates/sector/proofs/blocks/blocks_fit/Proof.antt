@@ -12,8 +12,8 @@ use borrow.Author.Needs.{needs}
 use Rattle.sector.proofs.blocks.blocks_fit.Statement.{statement}
 use Rattle.sector.proofs.blocks.blocks_fit.Tie as tie
 
-blocks-in-requires : tie.Need-blocks-in-requires
-blocks-in-requires c κs = search needs
+measured-in-requires : tie.Need-measured-in-requires
+measured-in-requires c κs = search needs
 
 least-gap-requires : tie.Need-least-gap-requires
 least-gap-requires c κs = search needs
@@ -23,14 +23,14 @@ add-result c =
     let s = c .before .before in
     let a = s .before .before .args in
     let g = s .before .shared-slice-known .given in
-    omega (arith, end-in _ (a .r .now) (s .blocks-in .ensures), end-lt (a .r .now) (omega (arith, g 6)) (omega (arith, g 7)) (omega (arith, g 8)), gap-le (a .last))
+    omega (arith, end-in _ (a .r .now) (s .measured-in .ensures), end-lt (a .r .now) (omega (arith, g 6)) (omega (arith, g 7)) (omega (arith, g 8)), gap-le (a .last))
 
 returns : tie.Need-returns
 unfolding blocksFit
 returns c =
     let s = c .before .before in
     let r = s .before .before .args .r .now in
-    ap₂ (λ (x y : ℕ). leb (x + y) (length r)) (end-in _ r (s .blocks-in .ensures)) (c .before .least-gap .ensures)
+    ap₂ (λ (x y : ℕ). leb (x + y) (length r)) (end-in _ r (s .measured-in .ensures)) (c .before .least-gap .ensures)
 
 pub blocks-fit-spec : {M : Type 1} → statement M
-blocks-fit-spec = tie.close (tie.spec blocks-in-requires least-gap-requires add-result returns)
+blocks-fit-spec = tie.close (tie.spec measured-in-requires least-gap-requires add-result returns)

@@ -7,13 +7,13 @@ use borrow.Author.Needs.{needs}
 use Rattle.sector.proofs.blocks.data_right.Statement.{statement}
 use Rattle.sector.proofs.blocks.data_right.Tie as tie
 
-blocks-in-requires : tie.Need-blocks-in-requires
-blocks-in-requires c κs = search needs
+measured-in-requires : tie.Need-measured-in-requires
+measured-in-requires c κs = search needs
 
 returns : tie.Need-returns
 returns c =
     let r = c .before .before .before .args .r .now in
-    sym (data-short r (omega (arith, data-offset-in _ r (c .before .blocks-in .ensures))))
+    sym (data-short r (omega (arith, data-offset-in _ r (c .before .measured-in .ensures))))
 
 sub-starts-empty : tie.Need-sub-starts-empty
 sub-starts-empty c = search needs
@@ -41,13 +41,13 @@ block-right-requires c κs = search needs
 
 returns-2 : tie.Need-returns-2
 returns-2 c =
-    let b = c .before .before .before .before .blocks-in in
+    let b = c .before .before .before .before .measured-in in
     let r = c .before .before .before .before .before .before .args .r .now in
     c .starts-empty .ensures ∙ data-none r (b .result .«data_offset») (data-offset-in _ r (b .ensures)) (sym (data-length-in _ r (b .ensures)) ∙ c .before .before .if2 .taken)
 
 returns-3 : tie.Need-returns-3
 returns-3 c =
-    let b = c .before .before .before .before .blocks-in in
+    let b = c .before .before .before .before .measured-in in
     let r = c .before .before .before .before .before .before .args .r .now in
     c .block-right .ensures ∙ data-some r (b .result .«data_offset») (data-offset-in _ r (b .ensures)) (b .result .«data_length») (data-length-in _ r (b .ensures)) (c .before .before .if2 .left)
 
@@ -55,7 +55,7 @@ pub data-right-spec : {M : Type 1} → statement M
 data-right-spec =
     tie.close
     (tie.spec
-    blocks-in-requires
+    measured-in-requires
     returns
     sub-starts-empty
     part-starts-empty-start

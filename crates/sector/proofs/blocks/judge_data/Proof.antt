@@ -26,14 +26,14 @@ opening-length-requires c κs = search needs
 add-data-wrong : tie.Need-add-data-wrong
 add-data-wrong c = omega (arith, opening-le (c .before .before .before .before .before .args .first))
 
-blocks-in-requires : tie.Need-blocks-in-requires
-blocks-in-requires c κs = search needs
+measured-in-requires : tie.Need-measured-in-requires
+measured-in-requires c κs = search needs
 
 add-data-wrong-2 : tie.Need-add-data-wrong-2
 add-data-wrong-2 c =
     let s = c .before .before .before .before .before in
     let a = s .before .args in
-    omega (arith, opening-le (a .first), data-offset-in _ (a .r .now) (c .before .before .blocks-in .ensures), offset-lt (a .r .now) (omega (arith, s .shared-slice-known .given 6)))
+    omega (arith, opening-le (a .first), data-offset-in _ (a .r .now) (c .before .before .measured-in .ensures), offset-lt (a .r .now) (omega (arith, s .shared-slice-known .given 6)))
 
 data-wrong-requires : tie.Need-data-wrong-requires
 data-wrong-requires c κs = search needs
@@ -47,7 +47,7 @@ returns-2 : tie.Need-returns-2
 returns-2 c =
     let a = c .before .before .before .before .before .before .before .args in
     c .data-wrong .ensures
-    ∙ ap₂ (λ (x y : ℕ). dataWrong (a .p + x + y)) (c .before .before .opening-length .ensures) (data-offset-in _ (a .r .now) (c .before .before .before .blocks-in .ensures))
+    ∙ ap₂ (λ (x y : ℕ). dataWrong (a .p + x + y)) (c .before .before .opening-length .ensures) (data-offset-in _ (a .r .now) (c .before .before .before .measured-in .ensures))
     ∙ sym (ap answerOf (part-wrong theData (a .p + openingLength (a .first)) (a .r .now) (sym (c .before .before .before .before .before .data-right .ensures) ∙ c .before .before .before .before .if1 .left)))
 
 pub judge-data-spec : {M : Type 1} → statement M
@@ -56,7 +56,7 @@ judge-data-spec =
     (tie.spec
     data-right-requires
     done-requires
-    blocks-in-requires
+    measured-in-requires
     opening-length-requires
     add-data-wrong
     add-data-wrong-2

@@ -1,8 +1,8 @@
--- `blocks_in` meets its contract: each measure is the one of its name.
+-- `measured_in` meets its contract: each measure is the one of its name.
 use Rattle.sector.specs.Measured.{measuredIn}
 use borrow.Author.Needs.{needs}
-use Rattle.sector.proofs.blocks.blocks_in.Statement.{statement}
-use Rattle.sector.proofs.blocks.blocks_in.Tie as tie
+use Rattle.sector.proofs.blocks.measured_in.Statement.{statement}
+use Rattle.sector.proofs.blocks.measured_in.Tie as tie
 
 key-length-requires : tie.Need-key-length-requires
 key-length-requires c κs = search needs
@@ -26,8 +26,8 @@ returns c =
       end = c .block-end .ensures i;
     }
 
-pub blocks-in-spec : {M : Type 1} → statement M
-blocks-in-spec =
+pub measured-in-spec : {M : Type 1} → statement M
+measured-in-spec =
     tie.close
     (tie.spec
     key-length-requires
