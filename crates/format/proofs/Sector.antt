@@ -2,6 +2,7 @@
 pub mod Sizes
 pub mod BlockEnd
 pub mod BlocksJudged
+pub mod FaultBytes
 pub mod ReadSector
 pub mod WrittenRest
 pub mod Valid

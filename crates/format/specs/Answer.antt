@@ -1,24 +1,31 @@
--- The answer of a call: its number and its place, with one name for each row of the table.
+-- The answer of a call: its number, its second number and its place, with one name for each row of the table.
 use Prim.Native.Nat.{ℕ}
 use Rattle.format.specs.Layout.{homeFirst}
+use Rattle.format.specs.Fault.{Fault, faultNumber}
 use Rattle.format.specs.declared.Answer.{Answer as AnswerCode}
 
--- An answer: the number of its row in the table, and the place of the fault in bytes after index.
+-- An answer: the number of its row in the table, the second number, and the place of the fault in bytes after index.
 pub record Answer : Type 0 where
   pub number : ℕ
+  -- What is wrong with the block of answers 10 and 11; 0 with all others.
+  pub fault : ℕ
   pub place : ℕ
 
--- The answer with number n and place p.
+-- The answer with number n and place p, of which the second number is 0.
 abbrev pub answerAt : ℕ → ℕ → Answer
-answerAt n p = record { number = n; place = p }
+answerAt n p = record { number = n; fault = 0; place = p }
+
+-- The answer with number n for a block at p in which f is at fault.
+abbrev pub faultAt : ℕ → Fault → ℕ → Answer
+faultAt n f p = record { number = n; fault = faultNumber f; place = p }
 
 -- The answer that a value of the code stands for.
 abbrev pub asAnswer : AnswerCode → Answer
-asAnswer a = answerAt (a .number) (a .place)
+asAnswer a = record { number = a .number; fault = a .fault; place = a .place }
 
 -- The value of the code that stands for an answer.
 abbrev pub coded : Answer → AnswerCode
-coded a = record { number = a .number; place = a .place }
+coded a = record { number = a .number; fault = a .fault; place = a .place }
 
 -- 0: done.
 abbrev pub done : Answer
@@ -61,12 +68,12 @@ abbrev pub spanTooShort : ℕ → Answer
 spanTooShort p = answerAt 9 p
 
 -- 10: opening, check or closing byte of the key at p is wrong.
-abbrev pub keyWrong : ℕ → Answer
-keyWrong p = answerAt 10 p
+abbrev pub keyWrong : Fault → ℕ → Answer
+keyWrong f p = faultAt 10 f p
 
 -- 11: the same of the data block at p, or it is not 00 where DL = 0.
-abbrev pub dataWrong : ℕ → Answer
-dataWrong p = answerAt 11 p
+abbrev pub dataWrong : Fault → ℕ → Answer
+dataWrong f p = faultAt 11 f p
 
 -- 12: there is no candidate with this S; or a walk has come to its end.
 abbrev pub sectorMissing : Answer

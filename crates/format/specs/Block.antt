@@ -1,13 +1,14 @@
 -- The key and the data block of a sector, read from what follows its count's opening.
 use Prim.Native.Nat.{ℕ, _+_}
-use mathlib.Core.Bool.{Bool, _&&_, _||_}
-use mathlib.Core.List.{List, [], _∷_, _++_}
+use mathlib.Core.Bool.{Bool}
+use mathlib.Core.List.{List, [], _∷_}
 use lib.ListN.{length, take, drop}
 use lib.Dec.{leb, eqb}
 use Rattle.base.specs.Pick.{pick}
 use Rattle.format.specs.Layout.{plainLength, countToBlock, blockFrame, keyFrame, emptyBlock}
-use Rattle.format.specs.Opening.{startsWith, plainOpening, closedAfter}
+use Rattle.format.specs.Opening.{startsWith, plainOpening, checkFollows, closingFollows}
 use Rattle.format.specs.Count.{keyLength, dataLength}
+use Rattle.format.specs.Fault.{openingWrong, checkWrong, closingWrong, Tested, sound, demand}
 
 -- The key's opening comes 11 bytes after the count's 12.
 abbrev pub keyOffset : ℕ
@@ -33,23 +34,34 @@ leastGap last = pick last 13 21
 unfoldable pub blocksFit : Bool → List ℕ → Bool
 blocksFit last r = leb (blockEnd r + leastGap last) (length r)
 
--- A block of n information bytes stands here: opening, information, check and closing byte.
-unfoldable pub blockRight : ℕ → List ℕ → Bool
-blockRight n c = startsWith plainOpening c && closedAfter n (drop plainLength c)
+-- A block of n information bytes: its opening is tried first, then its check, then its closing byte.
+unfoldable pub testBlock : ℕ → List ℕ → Tested
+testBlock n c =
+    demand (startsWith plainOpening c) openingWrong
+    (demand (checkFollows n (drop plainLength c)) checkWrong
+    (demand (closingFollows n (drop plainLength c)) closingWrong
+    sound))
+
+-- The data block where DL = 0: its opening, then one 00, which counts as its check.
+unfoldable pub testEmpty : List ℕ → Tested
+testEmpty c =
+    demand (startsWith plainOpening c) openingWrong
+    (demand (startsWith (0x00 ∷ []) (drop plainLength c)) checkWrong
+    sound)
 
 -- The information of such a block.
 unfoldable pub blockInfo : ℕ → List ℕ → List ℕ
 blockInfo n c = take n (drop plainLength c)
 
--- The key is right, or there is none.
-unfoldable pub keyRight : List ℕ → Bool
-keyRight r = eqb (keyLength r) 0 || blockRight (keyLength r) (drop keyOffset r)
+-- The key; none where KL = 0, and nothing to be at fault.
+unfoldable pub testKey : List ℕ → Tested
+testKey r = pick (eqb (keyLength r) 0) sound (testBlock (keyLength r) (drop keyOffset r))
 
--- The data block is right; if DL = 0 it is the opening and one 00.
-unfoldable pub dataRight : List ℕ → Bool
-dataRight r =
+-- The data block; if DL = 0 it is the opening and one 00.
+unfoldable pub testData : List ℕ → Tested
+testData r =
     let c = drop (dataOffset r) r in
-    pick (eqb (dataLength r) 0) (startsWith (plainOpening ++ 0x00 ∷ []) c) (blockRight (dataLength r) c)
+    pick (eqb (dataLength r) 0) (testEmpty c) (testBlock (dataLength r) c)
 
 -- The key's information; none where KL = 0.
 unfoldable pub keyInfo : List ℕ → List ℕ

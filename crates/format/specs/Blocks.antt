@@ -6,9 +6,9 @@ use lib.Dec.{eqb}
 use Rattle.base.specs.Pick.{pick}
 use Rattle.format.specs.Layout.{plainLength}
 use Rattle.format.specs.Answer.{spanTooShort, keyWrong, dataWrong}
-use Rattle.format.specs.Judged.{Judged, good, require}
+use Rattle.format.specs.Judged.{Judged, good, require, requireSound}
 use Rattle.format.specs.Count.{keyLength, dataLength}
-use Rattle.format.specs.Block.{keyOffset, dataOffset, blockEnd, blocksFit, keyRight, dataRight}
+use Rattle.format.specs.Block.{keyOffset, dataOffset, blockEnd, blocksFit, testKey, testData}
 
 -- A part of the lent track.
 pub record Part : Type 0 where
@@ -38,8 +38,8 @@ pub record Blocks : Type 0 where
 unfoldable pub blocksAt : ℕ → List ℕ → Blocks
 blocksAt q r =
     record {
-      key = require (keyRight r) (keyWrong (q + keyOffset)) (good (partIn theKey q r));
-      body = require (dataRight r) (dataWrong (q + dataOffset r)) (good (partIn theData q r));
+      key = requireSound (testKey r) (λ f. keyWrong f (q + keyOffset)) (good (partIn theKey q r));
+      body = requireSound (testData r) (λ f. dataWrong f (q + dataOffset r)) (good (partIn theData q r));
       end = q + blockEnd r;
     }
 

@@ -31,6 +31,10 @@ homeInfoLength = 5
 abbrev pub countInfoLength : ℕ
 countInfoLength = 9
 
+-- A check.
+abbrev pub checkLength : ℕ
+checkLength = 2
+
 -- What closes a field: its check and the closing byte.
 abbrev pub closingLength : ℕ
 closingLength = 3

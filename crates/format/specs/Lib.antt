@@ -6,6 +6,7 @@ pub mod Home
 pub mod Flag
 pub mod Address
 pub mod Count
+pub mod Fault
 pub mod Block
 pub mod Blocks
 pub mod Span
@@ -21,5 +22,6 @@ pub mod Blank
 pub mod Add
 pub mod Correct
 pub mod Together
+pub mod BlockFault
 pub mod Answer
 pub mod Judged

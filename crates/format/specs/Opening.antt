@@ -1,10 +1,11 @@
 -- The openings of home, counts and blocks, and what closes them.
-use Prim.Native.Nat.{ℕ}
+use Prim.Native.Nat.{ℕ, _+_}
 use mathlib.Core.Bool.{Bool, true, false, _&&_}
 use mathlib.Core.List.{List, [], _∷_, _++_}
 use lib.ListN.{take, drop}
 use lib.Dec.{eqb}
 use Rattle.crc.specs.Check.{checkBytes}
+use Rattle.format.specs.Layout.{checkLength}
 
 -- The cells c start with the list o.
 abbrev pub startsWith : List ℕ → List ℕ → Bool
@@ -35,3 +36,11 @@ closing xs = checkBytes xs ++ 0xCC ∷ []
 -- A field of n information bytes is closed rightly: its check and CC follow it.
 unfoldable pub closedAfter : ℕ → List ℕ → Bool
 closedAfter n c = startsWith (closing (take n c)) (drop n c)
+
+-- The check of n information bytes follows them.
+unfoldable pub checkFollows : ℕ → List ℕ → Bool
+checkFollows n c = startsWith (checkBytes (take n c)) (drop n c)
+
+-- The closing byte follows them and their check.
+unfoldable pub closingFollows : ℕ → List ℕ → Bool
+closingFollows n c = startsWith (0xCC ∷ []) (drop (n + checkLength) c)

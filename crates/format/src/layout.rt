@@ -32,6 +32,9 @@ pub const HOME_INFO: usize = 5;
 
 pub const COUNT_INFO: usize = 9;
 
+// The check.
+pub const CHECK: usize = 2;
+
 // The check and the closing byte.
 pub const CLOSING: usize = 3;
 

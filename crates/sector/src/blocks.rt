@@ -3,16 +3,20 @@ ghost use mathlib.Core.Path.{_≡_};
 ghost use Prim.Native.Nat.{_+_};
 ghost use Rattle.format.specs.Answer.{asAnswer};
 ghost use Rattle.format.specs.Judged.{answerOf};
-ghost use Rattle.format.specs.Block.{dataOffset, blockEnd, leastGap, blocksFit, blockRight, keyRight, dataRight};
+ghost use Rattle.format.specs.Fault.{checkWrong, closingWrong, sound, demand};
+ghost use Rattle.format.specs.Block.{dataOffset, blockEnd, leastGap, blocksFit, testBlock, testEmpty, testKey, testData};
 ghost use Rattle.format.specs.Blocks.{blocksAt, judgeFit};
 ghost use Rattle.format.specs.Sector.{openingLength};
+ghost use Rattle.sector.specs.As.{asTested};
 ghost use Rattle.sector.specs.Measured.{asMeasured, measuredIn};
-use crate::bytes::closed_after;
-use crate::bytes::starts_empty;
+use crate::bytes::check_follows;
+use crate::bytes::closing_follows;
 use crate::bytes::starts_plain;
+use crate::bytes::starts_zero;
 use crate::count::data_length;
 use crate::count::key_length;
 use crate::opening_length;
+use format::Fault;
 use format::layout::BLOCK_FRAME;
 use format::layout::COUNT_TO_BLOCK;
 use format::layout::EMPTY_BLOCK;
@@ -28,6 +32,12 @@ pub struct Measured {
     pub data_length: usize,
     pub data_offset: usize,
     pub end: usize,
+}
+
+// What the test of a block gives: it is sound, or what is at fault.
+pub enum Tested {
+    Sound,
+    Faulty(Fault),
 }
 
 // Where the data block opens: behind a gap of 11, which follows the key, or the count of a sector without one.
@@ -82,45 +92,74 @@ fn blocks_fit(last: bool, r: &[u8]) -> bool
     blocks.end + least_gap(last) <= r.len()
 }
 
-// Whether a block of n information bytes stands here: opening, information, check and closing byte.
-fn block_right(n: usize, c: &[u8]) -> bool
-    ensures { λ b. ⌜ b ≡ blockRight n (now (c .entry)) ⌝ }
+// What is at fault in a block that opens: its check is tried before its closing byte.
+fn first_wrong(checked: bool, closed: bool) -> Tested
+    ensures { λ t. ⌜ asTested t ≡ demand checked checkWrong (demand closed closingWrong sound) ⌝ }
 {
-    if starts_plain(c) {
-        closed_after(&c[PLAIN..], n)
+    if checked {
+        if closed {
+            Tested::Sound
+        } else {
+            Tested::Faulty(Fault::Closing)
+        }
     } else {
-        false
+        Tested::Faulty(Fault::Check)
     }
 }
 
-// Whether the key is right, or there is none.
-fn key_right(r: &[u8]) -> bool
-    ensures { λ b. ⌜ b ≡ keyRight (now (r .entry)) ⌝ }
+// A block of n information bytes: its opening is tried first, then its check, then its closing byte.
+fn test_block(n: usize, c: &[u8]) -> Tested
+    ensures { λ t. ⌜ asTested t ≡ testBlock n (now (c .entry)) ⌝ }
+{
+    if starts_plain(c) {
+        let checked = check_follows(&c[PLAIN..], n);
+        let closed = closing_follows(&c[PLAIN..], n);
+        first_wrong(checked, closed)
+    } else {
+        Tested::Faulty(Fault::Opening)
+    }
+}
+
+// The data block where DL = 0: its opening, then one 00, which counts as its check.
+fn test_empty(c: &[u8]) -> Tested
+    ensures { λ t. ⌜ asTested t ≡ testEmpty (now (c .entry)) ⌝ }
+{
+    if starts_plain(c) {
+        let zero = starts_zero(&c[PLAIN..]);
+        first_wrong(zero, true)
+    } else {
+        Tested::Faulty(Fault::Opening)
+    }
+}
+
+// The key; none where KL = 0, and nothing to be at fault.
+fn test_key(r: &[u8]) -> Tested
+    ensures { λ t. ⌜ asTested t ≡ testKey (now (r .entry)) ⌝ }
 {
     let n = key_length(r);
     if n == 0 {
-        return true;
+        return Tested::Sound;
     }
     if r.len() < KEY_OFFSET {
-        return false;
+        return Tested::Faulty(Fault::Opening);
     }
-    block_right(n, &r[KEY_OFFSET..])
+    test_block(n, &r[KEY_OFFSET..])
 }
 
-// Whether the data block is right; if DL = 0 it is the opening and one 00.
-fn data_right(r: &[u8]) -> bool
-    ensures { λ b. ⌜ b ≡ dataRight (now (r .entry)) ⌝ }
+// The data block; if DL = 0 it is the opening and one 00.
+fn test_data(r: &[u8]) -> Tested
+    ensures { λ t. ⌜ asTested t ≡ testData (now (r .entry)) ⌝ }
 {
     let blocks = measured_in(r);
     let at = blocks.data_offset;
     if r.len() < at {
-        return false;
+        return Tested::Faulty(Fault::Opening);
     }
     let n = blocks.data_length;
     if n == 0 {
-        starts_empty(&r[at..])
+        test_empty(&r[at..])
     } else {
-        block_right(n, &r[at..])
+        test_block(n, &r[at..])
     }
 }
 
@@ -135,25 +174,29 @@ pub fn judge_fit(p: usize, last: bool, r: &[u8]) -> format::Answer
     }
 }
 
-// The answer for the key of the count at p: 10 where it is wrong.
+// The answer for the key of the count at p: 10 where something is at fault in it.
 pub fn judge_key(first: bool, p: u32, r: &[u8]) -> format::Answer
     ensures { λ a. ⌜ asAnswer a ≡ answerOf (blocksAt (p + openingLength first) (now (r .entry)) .key) ⌝ }
 {
-    if key_right(r) {
-        format::done()
-    } else {
-        format::key_wrong(p as usize + opening_length(first) + KEY_OFFSET)
+    let tested = test_key(r);
+    match tested {
+        Tested::Sound => format::done(),
+        Tested::Faulty(f) => {
+            format::key_wrong(f, p as usize + opening_length(first) + KEY_OFFSET)
+        }
     }
 }
 
-// The answer for the data block of the count at p: 11 where it is wrong.
+// The answer for the data block of the count at p: 11 where something is at fault in it.
 pub fn judge_data(first: bool, p: u32, r: &[u8]) -> format::Answer
     ensures { λ a. ⌜ asAnswer a ≡ answerOf (blocksAt (p + openingLength first) (now (r .entry)) .body) ⌝ }
 {
-    if data_right(r) {
-        format::done()
-    } else {
-        let blocks = measured_in(r);
-        format::data_wrong(p as usize + opening_length(first) + blocks.data_offset)
+    let tested = test_data(r);
+    match tested {
+        Tested::Sound => format::done(),
+        Tested::Faulty(f) => {
+            let blocks = measured_in(r);
+            format::data_wrong(f, p as usize + opening_length(first) + blocks.data_offset)
+        }
     }
 }

@@ -1,11 +1,11 @@
 // Bytes of a span: one byte, a field with its check, an opening.
 ghost use mathlib.Core.Path.{_≡_};
-ghost use mathlib.Core.List.{[], _∷_, _++_};
+ghost use mathlib.Core.List.{[], _∷_};
 ghost use lib.ListN.{getD};
-ghost use Rattle.format.specs.Opening.{startsWith, plainOpening, closedAfter};
+ghost use Rattle.format.specs.Opening.{startsWith, plainOpening, closedAfter, checkFollows, closingFollows};
+use format::layout::CHECK;
 use format::layout::CLOSING;
 use format::layout::CLOSING_BYTE;
-use format::layout::PLAIN;
 use format::layout::PLAIN_OPENING;
 
 // The byte at i, and 0 past the end.
@@ -15,9 +15,24 @@ pub fn byte_at(r: &[u8], i: usize) -> u8
     if i < r.len() { r[i] } else { 0 }
 }
 
-// Whether n information bytes are followed by their check and the closing byte.
-pub fn closed_after(r: &[u8], n: usize) -> bool
-    ensures { λ b. ⌜ b ≡ closedAfter n (now (r .entry)) ⌝ }
+// Whether the check of n information bytes follows them.
+pub fn check_follows(r: &[u8], n: usize) -> bool
+    ensures { λ b. ⌜ b ≡ checkFollows n (now (r .entry)) ⌝ }
+{
+    if r.len() < n {
+        return false;
+    }
+    if r.len() - n < CHECK {
+        return false;
+    }
+    let high = r[n];
+    let low = r[n + 1];
+    crc::check_agrees(&r[..n], high, low)
+}
+
+// Whether the closing byte follows them and their check.
+pub fn closing_follows(r: &[u8], n: usize) -> bool
+    ensures { λ b. ⌜ b ≡ closingFollows n (now (r .entry)) ⌝ }
 {
     if r.len() < n {
         return false;
@@ -25,10 +40,15 @@ pub fn closed_after(r: &[u8], n: usize) -> bool
     if r.len() - n < CLOSING {
         return false;
     }
-    let high = r[n];
-    let low = r[n + 1];
-    if crc::check_agrees(&r[..n], high, low) {
-        r[n + 2] == CLOSING_BYTE
+    r[n + CHECK] == CLOSING_BYTE
+}
+
+// Whether n information bytes are followed by their check and the closing byte.
+pub fn closed_after(r: &[u8], n: usize) -> bool
+    ensures { λ b. ⌜ b ≡ closedAfter n (now (r .entry)) ⌝ }
+{
+    if check_follows(r, n) {
+        closing_follows(r, n)
     } else {
         false
     }
@@ -58,16 +78,12 @@ pub fn starts_plain(c: &[u8]) -> bool
     starts_with(c, &PLAIN_OPENING)
 }
 
-// Whether the bytes start with an unmarked opening and one 00, the data block where DL = 0.
-pub fn starts_empty(c: &[u8]) -> bool
-    ensures { λ b. ⌜ b ≡ startsWith (plainOpening ++ 0x00 ∷ []) (now (c .entry)) ⌝ }
+// Whether the bytes start with one 00.
+pub fn starts_zero(c: &[u8]) -> bool
+    ensures { λ b. ⌜ b ≡ startsWith (0x00 ∷ []) (now (c .entry)) ⌝ }
 {
-    if starts_plain(c) {
-        if c.len() <= PLAIN {
-            return false;
-        }
-        c[PLAIN] == 0
-    } else {
-        false
+    if c.len() == 0 {
+        return false;
     }
+    c[0] == 0
 }

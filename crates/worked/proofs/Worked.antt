@@ -8,12 +8,12 @@ use lib.Dec.{eqb}
 use borrow.Author.Tests.{eqb-true}
 use Rattle.crc.specs.Check.{digits, coefficients, divisor, bringDown, remainder, checkBytes}
 use Rattle.format.specs.Lent.{lengthRight, marksLegal, lentForWriting, lentForReading, cells, bytesOf, marksOf, bothLent}
-use Rattle.format.specs.Opening.{opens, closing, closedAfter}
+use Rattle.format.specs.Opening.{opens, closing, closedAfter, checkFollows, closingFollows}
 use Rattle.format.specs.Flag.{homeFlagRight, sequenceRight, countFlagRight, namesItself}
 use Rattle.format.specs.Address.{addressIn, addressBytes, addressInRange, sameAddress, addressRight}
 use Rattle.format.specs.Home.{homeFrom, findHome, homeBytes, homeOf, homeFieldsRight, judgeHomeOf, judgeHome}
 use Rattle.format.specs.Count.{countFits, countClosed, countAddressRight, countFieldsRight}
-use Rattle.format.specs.Block.{keySize, dataOffset, blockEnd, leastGap, blocksFit, blockRight, blockInfo, keyRight, dataRight, keyInfo, dataInfo}
+use Rattle.format.specs.Block.{keySize, dataOffset, blockEnd, leastGap, blocksFit, testBlock, testEmpty, blockInfo, testKey, testData, keyInfo, dataInfo}
 use Rattle.format.specs.Written.{dataSize, gapOne, countInfo, writtenBlock, writtenKey, writtenData, countOpening, writtenSector, asPair, gapAfter, reach, writtenSpans, writtenBehind}
 use Rattle.format.specs.Span.{unmarkedRun, runsToIndex, spanLength, spanRest, beforeOpening, laterSpans, spans}
 use Rattle.format.specs.Sector.{sectorIn, settle, judgeCount, readBlocks, judgeSector, readSpan, contentRight}
@@ -47,7 +47,7 @@ unfolding digits coefficients divisor bringDown remainder checkBytes
     lengthRight marksLegal lentForWriting lentForReading cells bytesOf marksOf opens closing closedAfter
     homeFlagRight sequenceRight countFlagRight namesItself addressIn addressBytes addressInRange sameAddress addressRight
     homeFrom findHome homeBytes homeOf homeFieldsRight judgeHomeOf judgeHome countFits countClosed countAddressRight countFieldsRight
-    keySize dataSize dataOffset blockEnd leastGap blocksFit blockRight blockInfo keyRight dataRight keyInfo dataInfo partAt blocksAt judgeFit
+    keySize dataSize dataOffset blockEnd leastGap blocksFit checkFollows closingFollows testBlock testEmpty blockInfo testKey testData keyInfo dataInfo partAt blocksAt judgeFit
     unmarkedRun runsToIndex spanLength spanRest beforeOpening laterSpans spans sectorIn settle judgeCount readBlocks judgeSector readSpan
     judgeMarks readSpans placedFrom among judgeNumbers judgeBehind acceptCells accept
     gapOne countInfo writtenBlock writtenKey writtenData countOpening writtenSector asPair gapAfter reach writtenSpans writtenBehind

@@ -2,7 +2,7 @@
 use mathlib.Core.Path.{_≡_, refl, sym, ap, ap₂, _∙_}
 use Prim.Native.Nat.{ℕ, zero, suc, _≤_, _<_, _+_}
 use native.Mathlib.Omega.{arith}
-use mathlib.Core.Bool.{Bool, true, false}
+use mathlib.Core.Bool.{Bool, true, false, _&&_}
 use mathlib.Core.List.{List, [], _∷_, _++_}
 use mathlib.Core.Logic.{_⊎_, inl, inr}
 use lib.ListN.{length, take, drop, getD, replicate, length-append}
@@ -11,7 +11,7 @@ use lib.Dec.{ltb, eqb, lit<}
 use borrow.Author.Tests.{eqb-true, eq-eqb, ne-eqb, ltb-true, lt-ltb}
 use Rattle.format.specs.Lent.{unmarked}
 use Rattle.format.specs.Opening.{startsWith, markedOpening, opens}
-use Rattle.base.proofs.Tests.{false-true, and-both, and-right, and-make}
+use Rattle.base.proofs.Tests.{false-true, and-both, and-right, and-make, and-assoc}
 
 -- A list starts with its front.
 pub starts-with-self : (o r : List ℕ) → startsWith o (o ++ r) ≡ true
@@ -38,6 +38,12 @@ module _ (o c : List ℕ) (k q : ℕ) (h : k < length o) (l : q < length c) wher
       let a : k + 1 ≡ suc k = omega arith in
       let b : q + 1 ≡ suc q = omega arith in
       rw (a, b, drop-cons o k 0 h, drop-cons c q 0 l, eq-eqb (getD o k 0) (getD c q 0) e)
+
+-- Cells that start with two lists in turn.
+pub starts-append : (o q c : List ℕ) → startsWith (o ++ q) c ≡ (startsWith o c && startsWith q (drop (length o) c))
+starts-append [] q c = refl
+starts-append (x ∷ o) q [] = refl
+starts-append (x ∷ o) q (y ∷ c) = rw (starts-append o q c) (sym (and-assoc (eqb x y) (startsWith o c) (startsWith q (drop (length o) c))))
 
 -- What starts with a list is at least as long.
 pub starts-length : (o c : List ℕ) → startsWith o c ≡ true → length o ≤ length c

@@ -53,7 +53,7 @@ after-front o c =
     )
 
 -- Unmarked cells at the front are the front of the track.
-front-bytes : (r z t m : List ℕ) → unmarked r ≡ true → cells t m ≡ r ++ z → t ≡ r ++ drop (length r) t
+pub front-bytes : (r z t m : List ℕ) → unmarked r ≡ true → cells t m ≡ r ++ z → t ≡ r ++ drop (length r) t
 unfolding cells unmarked
 front-bytes [] z t m u e = refl
 front-bytes (x ∷ r) z [] m u e = absurd (let w : _≡_ {A = ℕ} 0 1 = cc in omega arith)

@@ -12,7 +12,8 @@ use Rattle.format.specs.Judged.{good, refused}
 use Rattle.format.specs.Lent.{lentForReading, cells}
 use Rattle.format.specs.Home.{Home, firstCountPlace}
 use Rattle.format.specs.Count.{Settled, unsettled, countNumber}
-use Rattle.format.specs.Block.{blocksFit, keyRight, dataRight}
+use Rattle.format.specs.Fault.{sound}
+use Rattle.format.specs.Block.{blocksFit, testKey, testData}
 use Rattle.format.specs.Span.{none}
 use Rattle.format.specs.Sector.{Sector, openingLength, isFirst, settle, sectorIn}
 use Rattle.format.specs.Accept.{Placed, placedFrom, among, Accepted, spansOf, accept}
@@ -27,7 +28,7 @@ use Rattle.format.proofs.Track.Pairs.{accepted-pair}
 use Rattle.format.proofs.Track.Sectors.{Distinct, numbersOf, numbers-distinct}
 use Rattle.format.proofs.Find.SpanCandidates.{candidatesOf, none-placed, read-first}
 use Rattle.format.proofs.Find.AcceptedCandidates.{candidates-accepted}
-use Rattle.format.proofs.Sector.BlocksJudged.{infoOf, rightOf, part-right}
+use Rattle.format.proofs.Sector.BlocksJudged.{infoOf, testOf, part-right}
 use Rattle.format.proofs.Find.FindSound.{find-hands-out}
 use Rattle.format.proofs.Find.FindParts.{restPlace}
 
@@ -38,8 +39,8 @@ placedRest x = drop (openingLength (x .sector .first)) (x .span)
 -- The sector x is what its span says.
 record ReadWell (last : Bool) (x : Placed) : Type 0 where
   pub fits : blocksFit last (placedRest x) ≡ true
-  pub key-right : keyRight (placedRest x) ≡ true
-  pub data-right : dataRight (placedRest x) ≡ true
+  pub key-right : testKey (placedRest x) ≡ sound
+  pub data-right : testData (placedRest x) ≡ sound
   pub number-is : countNumber (placedRest x) ≡ x .sector .number
   pub info-is : (w : Wanted) → infoOf w (placedRest x) ≡ contentOf w (x .sector)
 
@@ -131,12 +132,12 @@ accepted-read c a b =
     subst AllRead (sym (b .placed)) (reads-all (a .home) 0 unsettled p (spansOf (a .home) c) (b .sectors) (b .reads))
 
 -- The part that is asked for is right.
-well-right : (last : Bool) (x : Placed) → ReadWell last x → (w : Wanted) → rightOf w (placedRest x) ≡ true
+well-right : (last : Bool) (x : Placed) → ReadWell last x → (w : Wanted) → testOf w (placedRest x) ≡ sound
 well-right last x v theKey = v .key-right
 well-right last x v theData = v .data-right
 
 find-alone : (s : ℕ) (w : Wanted) (t m : List ℕ) (x : Candidate) → lentForReading t m ≡ true → carrying s (candidates (cells t m)) ≡ x ∷ [] → blocksFit (x .last) (x .rest) ≡ true
-    → rightOf w (x .rest) ≡ true → find s w t m ≡ good (partIn w (restPlace x) (x .rest))
+    → testOf w (x .rest) ≡ sound → find s w t m ≡ good (partIn w (restPlace x) (x .rest))
 unfolding find findCells candidatePart only judgeFit
 find-alone s w t m x l o f e = rw (l, o, f) (part-right w (restPlace x) (x .rest) e)
 

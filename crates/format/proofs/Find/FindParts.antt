@@ -2,24 +2,24 @@
 use mathlib.Core.Path.{_≡_, refl, sym, ap, _∙_}
 use mathlib.Core.Logic.{inl, inr, ⊎-elim}
 use Prim.Native.Nat.{ℕ, _+_}
-use mathlib.Core.Bool.{true, false}
+use mathlib.Core.Bool.{false}
 use mathlib.Core.List.{List, [], _∷_}
 use lib.ListN.{take, drop}
 use lib.Dec.{eqb}
 use borrow.Author.Tests.{eqb-true}
 use Rattle.format.specs.Answer.{sectorMissing, sectorRepeated}
 use Rattle.format.specs.Judged.{good}
-use Rattle.format.specs.Opening.{startsWith, plainOpening, closedAfter}
 use Rattle.format.specs.Count.{countNumber}
-use Rattle.format.specs.Block.{blockRight, blockInfo, keyInfo, dataInfo}
+use Rattle.format.specs.Fault.{sound}
+use Rattle.format.specs.Block.{testBlock, blockInfo, keyInfo, dataInfo}
 use Rattle.format.specs.Sector.{openingLength}
 use Rattle.format.specs.Candidate.{Candidate}
 use Rattle.format.specs.Find.{carrying, only}
 use Rattle.format.specs.Blocks.{Wanted, theKey, theData, Part, partAt, wantedPart, blocksAt}
 use Rattle.format.proofs.Base.Judged.{good-inj, refused-good}
-use Rattle.base.proofs.Tests.{cases, and-both}
+use Rattle.base.proofs.Tests.{cases}
 use Rattle.base.specs.Lists.{Member}
-use Rattle.format.proofs.Sector.BlocksJudged.{offsetOf, lengthOf, infoOf, part-good, right-block, part-in-is}
+use Rattle.format.proofs.Sector.BlocksJudged.{offsetOf, lengthOf, infoOf, part-good, test-block, part-in-is}
 
 -- Where the bytes of a count begin, behind its opening.
 abbrev pub restPlace : Candidate → ℕ
@@ -31,16 +31,11 @@ unfolding keyInfo dataInfo blockInfo
 info-is theKey r = refl
 info-is theData r = refl
 
--- A block that is right opens and is closed.
-pub right-both : (n : ℕ) (c : List ℕ) → blockRight n c ≡ true → (startsWith plainOpening c ≡ true) × (closedAfter n (drop 6 c) ≡ true)
-unfolding blockRight
-right-both n c e = and-both (startsWith plainOpening c) (closedAfter n (drop 6 c)) e
-
 -- What a part is that was found to be right.
 pub record Right (w : Wanted) (x : Candidate) (part : Part) : Type 0 where
   pub size-is : part .size ≡ lengthOf w (x .rest)
   pub start-is : eqb (lengthOf w (x .rest)) 0 ≡ false → part .start ≡ restPlace x + offsetOf w (x .rest) + 6
-  pub right : eqb (lengthOf w (x .rest)) 0 ≡ false → blockRight (lengthOf w (x .rest)) (drop (offsetOf w (x .rest)) (x .rest)) ≡ true
+  pub right : eqb (lengthOf w (x .rest)) 0 ≡ false → testBlock (lengthOf w (x .rest)) (drop (offsetOf w (x .rest)) (x .rest)) ≡ sound
 
 -- The part asked for is right.
 pub found-right : (w : Wanted) (x : Candidate) (part : Part) → wantedPart w (blocksAt (restPlace x) (x .rest)) ≡ good part → Right w x part
@@ -52,7 +47,7 @@ found-right w x part e =
     record {
       size-is = sym (ap (λ (p : Part). p .size) is);
       start-is = λ z. sym (ap (λ (p : Part). p .start) is) ∙ rw z;
-      right = right-block w r (a .0);
+      right = λ z. sym (test-block w r z) ∙ a .0;
     }
 
 -- The only candidate stands alone.

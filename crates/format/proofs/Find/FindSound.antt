@@ -21,8 +21,9 @@ use Rattle.format.specs.Blocks.{Wanted, Part, judgeFit}
 use Rattle.format.proofs.Base.Judged.{then-good, require-good}
 use Rattle.base.proofs.Tests.{cases, false-true, and-both, and-make}
 use Rattle.base.specs.Lists.{Member}
+use Rattle.format.proofs.Cells.Field.{block-parts}
 use Rattle.format.proofs.Find.CandidateBytes.{rest-in-track}
-use Rattle.format.proofs.Find.FindParts.{restPlace, info-is, right-both, Right, only-is, carrying-member, found-right}
+use Rattle.format.proofs.Find.FindParts.{restPlace, info-is, Right, only-is, carrying-member, found-right}
 use Rattle.format.proofs.Sector.BlocksJudged.{offsetOf, lengthOf, infoOf, block-fits, fit-good}
 
 -- The part, with its check and closing byte, lies in the span of the count x.
@@ -99,10 +100,10 @@ module _ (w : Wanted) (t m : List ℕ) (x : Candidate) (part : Part) (k : Member
       (λ e. let b = part-start e in rw (info-is w (x .rest), v .size-is, b .1) (take-append-le n info (b .0) length-info))
 
   part-opened : (part .size ≡ 0) ⊎ (startsWith plainOpening (drop (restPlace x + offsetOf w (x .rest)) t) ≡ true)
-  part-opened = unless-empty (λ e. let b = block-start in rw (b .1) (starts-with-more plainOpening block (b .0) (right-both n block (v .right e) .0)))
+  part-opened = unless-empty (λ e. let b = block-start in rw (b .1) (starts-with-more plainOpening block (b .0) (block-parts n block (v .right e) .0)))
 
   part-closed : (part .size ≡ 0) ⊎ (closedAfter (part .size) (drop (part .start) t) ≡ true)
-  part-closed = unless-empty (λ e. let b = part-start e in rw (v .size-is, b .1) (closed-append n info (b .0) length-info (right-both n block (v .right e) .1)))
+  part-closed = unless-empty (λ e. let b = part-start e in rw (v .size-is, b .1) (closed-append n info (b .0) length-info (block-parts n block (v .right e) .1)))
 
 -- Find hands out nothing else.
 pub find-hands-out : (s : ℕ) (w : Wanted) (t m : List ℕ) (part : Part) → find s w t m ≡ good part → (x : Candidate) × HandedOut s w t m part x

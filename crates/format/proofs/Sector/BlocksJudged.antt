@@ -7,11 +7,12 @@ use mathlib.Core.List.{List}
 use lib.ListN.{length, drop}
 use lib.Dec.{eqb}
 use Rattle.format.specs.Answer.{Answer, keyWrong, dataWrong, spanTooShort}
-use Rattle.format.specs.Judged.{good, refused, require, answerOf}
+use Rattle.format.specs.Fault.{Fault, Tested, sound, faulty}
+use Rattle.format.specs.Judged.{good, refused, requireSound, answerOf}
 use Rattle.format.specs.Count.{keyLength, dataLength}
-use Rattle.format.specs.Block.{keyOffset, dataOffset, blocksFit, blockRight, keyRight, dataRight, keyInfo, dataInfo}
+use Rattle.format.specs.Block.{keyOffset, dataOffset, blocksFit, testBlock, testKey, testData, keyInfo, dataInfo}
 use Rattle.format.specs.Blocks.{Wanted, theKey, theData, Part, partAt, partIn, blocksAt, wantedPart, judgeFit}
-use Rattle.format.proofs.Base.Judged.{good-inj, require-good, require-zero}
+use Rattle.format.proofs.Base.Judged.{good-inj, require-good, require-zero, sound-good, sound-zero}
 use Rattle.format.proofs.Sector.Sizes.{gap-least}
 use Rattle.format.proofs.Sector.BlockEnd.{key-in-offset, data-in-end, end-in-span}
 
@@ -31,30 +32,30 @@ infoOf theKey r = keyInfo r
 infoOf theData r = dataInfo r
 
 -- Its test.
-abbrev pub rightOf : Wanted → List ℕ → Bool
-rightOf theKey r = keyRight r
-rightOf theData r = dataRight r
+abbrev pub testOf : Wanted → List ℕ → Tested
+testOf theKey r = testKey r
+testOf theData r = testData r
 
--- The answer that refuses it at place p.
-abbrev pub wrongAt : Wanted → ℕ → Answer
-wrongAt theKey p = keyWrong p
-wrongAt theData p = dataWrong p
+-- The answer that refuses it at place p, where f is at fault.
+abbrev pub wrongAt : Wanted → Fault → ℕ → Answer
+wrongAt theKey f p = keyWrong f p
+wrongAt theData f p = dataWrong f p
 
 -- That answer has a number of the table that is not 0, and the place p.
-pub wrong-row : (w : Wanted) (p : ℕ) → (1 ≤ wrongAt w p .number) × (wrongAt w p .number ≤ 16) × (wrongAt w p .place ≡ p)
-wrong-row theKey p = (omega arith, omega arith, refl)
-wrong-row theData p = (omega arith, omega arith, refl)
+pub wrong-row : (w : Wanted) (f : Fault) (p : ℕ) → (1 ≤ wrongAt w f p .number) × (wrongAt w f p .number ≤ 16) × (wrongAt w f p .place ≡ p)
+wrong-row theKey f p = (omega arith, omega arith, refl)
+wrong-row theData f p = (omega arith, omega arith, refl)
 
 -- The block asked for ends in what follows the opening.
 pub block-fits : (w : Wanted) (last : Bool) (r : List ℕ) → blocksFit last r ≡ true → offsetOf w r + 6 + lengthOf w r + 3 ≤ length r
 block-fits theKey last r e = omega (arith, end-in-span r last e, key-in-offset r, data-in-end r, gap-least last)
 block-fits theData last r e = omega (arith, end-in-span r last e, data-in-end r, gap-least last)
 
--- A test of a block with some information is that of its opening, information, check and closing byte.
-pub right-block : (w : Wanted) (r : List ℕ) → rightOf w r ≡ true → eqb (lengthOf w r) 0 ≡ false → blockRight (lengthOf w r) (drop (offsetOf w r) r) ≡ true
-unfolding keyRight dataRight
-right-block theKey r e z = rw z at e
-right-block theData r e z = rw z at e
+-- A test of a block with some information is that of its opening, check and closing byte.
+pub test-block : (w : Wanted) (r : List ℕ) → eqb (lengthOf w r) 0 ≡ false → testOf w r ≡ testBlock (lengthOf w r) (drop (offsetOf w r) r)
+unfolding testKey testData
+test-block theKey r z = rw z
+test-block theData r z = rw z
 
 -- The blocks and the least gap fit where they are judged so.
 pub fit-good : (p : ℕ) (last : Bool) (r : List ℕ) (u : Unit {0}) → judgeFit p last r ≡ good u → blocksFit last r ≡ true
@@ -77,30 +78,30 @@ module _ (w : Wanted) (q : ℕ) (r : List ℕ) where
       go theData = refl
 
   -- It is judged by its test.
-  pub part-judged : wantedPart w (blocksAt q r) ≡ require (rightOf w r) (wrongAt w (q + offsetOf w r)) (good (partIn w q r))
+  pub part-judged : wantedPart w (blocksAt q r) ≡ requireSound (testOf w r) (λ f. wrongAt w f (q + offsetOf w r)) (good (partIn w q r))
   unfolding blocksAt
   part-judged = go w
     where
-      go : (v : Wanted) → wantedPart v (blocksAt q r) ≡ require (rightOf v r) (wrongAt v (q + offsetOf v r)) (good (partIn v q r))
+      go : (v : Wanted) → wantedPart v (blocksAt q r) ≡ requireSound (testOf v r) (λ f. wrongAt v f (q + offsetOf v r)) (good (partIn v q r))
       go theKey = refl
       go theData = refl
 
-  -- Where the test holds it is found.
-  pub part-right : rightOf w r ≡ true → wantedPart w (blocksAt q r) ≡ good (partIn w q r)
+  -- Where it is sound it is found.
+  pub part-right : testOf w r ≡ sound → wantedPart w (blocksAt q r) ≡ good (partIn w q r)
   part-right e = part-judged ∙ rw e
 
-  -- Where it fails it is refused.
-  pub part-wrong : rightOf w r ≡ false → wantedPart w (blocksAt q r) ≡ refused (wrongAt w (q + offsetOf w r))
-  part-wrong e = part-judged ∙ rw e
+  -- Where it is not it is refused, with what is at fault.
+  pub part-wrong : (f : Fault) → testOf w r ≡ faulty f → wantedPart w (blocksAt q r) ≡ refused (wrongAt w f (q + offsetOf w r))
+  part-wrong f e = part-judged ∙ rw e
 
-  -- Where it is found the test holds.
-  pub part-good : (part : Part) → wantedPart w (blocksAt q r) ≡ good part → (rightOf w r ≡ true) × (partIn w q r ≡ part)
+  -- Where it is found it is sound.
+  pub part-good : (part : Part) → wantedPart w (blocksAt q r) ≡ good part → (testOf w r ≡ sound) × (partIn w q r ≡ part)
   part-good part e =
-      let a = require-good (rightOf w r) (wrongAt w (q + offsetOf w r)) (good (partIn w q r)) part (sym part-judged ∙ e) in
+      let a = sound-good (testOf w r) (λ f. wrongAt w f (q + offsetOf w r)) (good (partIn w q r)) part (sym part-judged ∙ e) in
       (a .0, good-inj (partIn w q r) part (a .1))
 
   -- It is found where the answer is 0.
   pub part-zero : answerOf (wantedPart w (blocksAt q r)) .number ≡ 0 → wantedPart w (blocksAt q r) ≡ good (partIn w q r)
   part-zero e =
       let n = ap (λ j. answerOf j .number) part-judged in
-      part-right (require-zero (rightOf w r) (wrongAt w (q + offsetOf w r)) (good (partIn w q r)) (λ z. omega (arith, wrong-row w (q + offsetOf w r))) (sym n ∙ e) .0)
+      part-right (sound-zero (testOf w r) (λ f. wrongAt w f (q + offsetOf w r)) (good (partIn w q r)) (λ f z. omega (arith, wrong-row w f (q + offsetOf w r))) (sym n ∙ e))

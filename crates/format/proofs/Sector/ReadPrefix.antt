@@ -3,7 +3,7 @@ use mathlib.Core.Path.{_≡_, sym, ap, _∙_}
 use Prim.Native.Nat.{ℕ, _+_, _≤_}
 use native.Mathlib.Omega.{arith}
 use mathlib.Core.Bool.{Bool}
-use mathlib.Core.List.{List, [], _∷_, _++_}
+use mathlib.Core.List.{List, _++_}
 use lib.ListN.{length, drop, length-append, length-drop}
 use lib.Seq.{drop-append-le}
 use lib.Dec.{eqb}
@@ -13,11 +13,11 @@ use Rattle.format.specs.Opening.{plainOpening}
 use Rattle.format.specs.Address.{addressIn}
 use Rattle.format.specs.Home.{Home}
 use Rattle.format.specs.Count.{Settled, countAddress, keyLength, dataLength, countFits, countClosed, countFieldsRight}
-use Rattle.format.specs.Block.{dataOffset, blockEnd, leastGap, blocksFit, keyRight, dataRight, keyInfo, dataInfo}
+use Rattle.format.specs.Block.{dataOffset, blockEnd, leastGap, blocksFit, testKey, testData, keyInfo, dataInfo}
 use Rattle.format.specs.Sector.{Sector, openingLength, isFirst, sectorIn, readSpan}
 use Rattle.base.proofs.Tests.{cases}
 use Rattle.format.proofs.Sector.BlockEnd.{key-in-offset, key-block-in-offset, data-in-end, block-in-end, count-in, byte-same, key-length-same, data-length-same, offset-same, end-same}
-use Rattle.format.proofs.Cells.Local.{starts-local, closed-local, block-local, info-local}
+use Rattle.format.proofs.Cells.Local.{starts-local, closed-local, block-local, empty-local, info-local}
 use Rattle.format.proofs.Sector.ReadSector.{restOf, read-inv, read-make}
 
 -- The blocks behind the opening end within xs: what follows xs does not matter to them.
@@ -37,21 +37,21 @@ module _ (xs ys zs : List ℕ) (ends : blockEnd (xs ++ ys) ≤ length xs) where
   unfolding countFieldsRight
   fields-same h i x = rw (byte-same xs ys zs ends 0 (omega arith), address-same)
 
-  key-same : keyRight (xs ++ zs) ≡ keyRight (xs ++ ys)
-  unfolding keyRight
+  key-same : testKey (xs ++ zs) ≡ testKey (xs ++ ys)
+  unfolding testKey
   key-same =
       rw (key-length-same xs ys zs ends)
       (cases (eqb (keyLength r) 0)
       (λ e. rw e)
       (λ e. rw (e, block-local xs ys zs (keyLength r) 23 (omega (arith, data-in-end r, key-block-in-offset r e)))))
 
-  data-same : dataRight (xs ++ zs) ≡ dataRight (xs ++ ys)
-  unfolding dataRight
+  data-same : testData (xs ++ zs) ≡ testData (xs ++ ys)
+  unfolding testData
   data-same =
       let o : ℕ = dataOffset r in
       rw (data-length-same xs ys zs ends, offset-same xs ys zs ends)
       (cases (eqb (dataLength r) 0)
-      (λ e. rw (e, starts-local xs ys zs (plainOpening ++ 0x00 ∷ []) o (omega (arith, data-in-end r))))
+      (λ e. rw (e, empty-local xs ys zs o (omega (arith, data-in-end r))))
       (λ e. rw (e, block-local xs ys zs (dataLength r) o (omega (arith, block-in-end r e)))))
 
   key-info-same : keyInfo (xs ++ zs) ≡ keyInfo (xs ++ ys)
@@ -95,7 +95,7 @@ module _ (i : ℕ) (w y z : List ℕ) where
         count-closed = carried countClosed l (closed-same xs y z inside) ∙ v .count-closed;
         fields-right = carried (countFieldsRight h i x) l (fields-same xs y z inside h i x) ∙ v .fields-right;
         blocks-fit = le-leb (blockEnd (drop o (w ++ z)) + leastGap final) (length (drop o (w ++ z))) (omega (arith, same, length-drop o (w ++ z)));
-        key-right = carried keyRight l (key-same xs y z inside) ∙ v .key-right;
-        data-right = carried dataRight l (data-same xs y z inside) ∙ v .data-right;
+        key-right = carried testKey l (key-same xs y z inside) ∙ v .key-right;
+        data-right = carried testData l (data-same xs y z inside) ∙ v .data-right;
         sector-is = v .sector-is ∙ sym (carried (sectorIn (isFirst i)) l (sector-same xs y z inside (isFirst i)));
       })

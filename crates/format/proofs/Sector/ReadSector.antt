@@ -7,12 +7,13 @@ use lib.ListN.{length, drop, length-take, length-drop}
 use native.Mathlib.Omega.{arith}
 use Rattle.base.specs.Pick.{pick}
 use Rattle.format.specs.Answer.{firstCountMissing, countCheckWrong, countFieldsWrong, spanTooShort}
+use Rattle.format.specs.Fault.{sound}
 use Rattle.format.specs.Judged.{good}
 use Rattle.format.specs.Opening.{startsWith, plainOpening}
 use Rattle.format.specs.Home.{Home}
 use Rattle.format.specs.Count.{Settled, keyLength, dataLength, countFits, countClosed, countFieldsRight}
 use Rattle.format.specs.Blocks.{theKey, theData, blocksAt, judgeFit}
-use Rattle.format.specs.Block.{blockEnd, leastGap, blocksFit, keyRight, dataRight, keyInfo, dataInfo, blockInfo}
+use Rattle.format.specs.Block.{blockEnd, leastGap, blocksFit, testKey, testData, keyInfo, dataInfo, blockInfo}
 use Rattle.format.specs.Sector.{Sector, openingLength, isFirst, sectorIn, judgeCount, readBlocks, judgeSector, readSpan}
 use Rattle.format.proofs.Base.Judged.{good-inj, then-good, require-good, require-holds}
 use Rattle.format.proofs.Sector.Sizes.{rest-least}
@@ -30,8 +31,8 @@ pub record ReadAs (h : Home) (i : ℕ) (x : Settled) (last : Bool) (g : List ℕ
   pub count-closed : countClosed (restOf i g) ≡ true
   pub fields-right : countFieldsRight h i x (restOf i g) ≡ true
   pub blocks-fit : blocksFit last (restOf i g) ≡ true
-  pub key-right : keyRight (restOf i g) ≡ true
-  pub data-right : dataRight (restOf i g) ≡ true
+  pub key-right : testKey (restOf i g) ≡ sound
+  pub data-right : testData (restOf i g) ≡ sound
   pub sector-is : s ≡ sectorIn (isFirst i) (restOf i g)
 
 count-inv : (h : Home) (i : ℕ) (x : Settled) (p : ℕ) (r : List ℕ) (u : Unit {0}) → judgeCount h i x p r ≡ good u
@@ -49,7 +50,7 @@ unfolding judgeCount
 count-make h i x p r a b c = rw (a, b, c)
 
 blocks-inv : (first : Bool) (p : ℕ) (last : Bool) (r : List ℕ) (s : Sector) → readBlocks first p last r ≡ good s
-    → (blocksFit last r ≡ true) × ((keyRight r ≡ true) × ((dataRight r ≡ true) × (s ≡ sectorIn first r)))
+    → (blocksFit last r ≡ true) × ((testKey r ≡ sound) × ((testData r ≡ sound) × (s ≡ sectorIn first r)))
 unfolding readBlocks
 blocks-inv first p last r s e =
     let q : ℕ = p + openingLength first in
@@ -60,7 +61,7 @@ blocks-inv first p last r s e =
       (part-good theKey q r (b .0) (b .1) .0, (part-good theData q r (c .0) (c .1) .0, sym (good-inj (sectorIn first r) s (c .2)))),
     )
 
-blocks-make : (first : Bool) (p : ℕ) (last : Bool) (r : List ℕ) (s : Sector) → blocksFit last r ≡ true → keyRight r ≡ true → dataRight r ≡ true → s ≡ sectorIn first r
+blocks-make : (first : Bool) (p : ℕ) (last : Bool) (r : List ℕ) (s : Sector) → blocksFit last r ≡ true → testKey r ≡ sound → testData r ≡ sound → s ≡ sectorIn first r
     → readBlocks first p last r ≡ good s
 unfolding readBlocks judgeFit blocksAt
 blocks-make first p last r s a b c e = rw (a, b, c, e)

@@ -13,7 +13,8 @@ use Rattle.format.specs.Lent.{unmarked}
 use Rattle.format.specs.Opening.{closing}
 use Rattle.format.specs.Address.{addressIn, addressBytes}
 use Rattle.format.specs.Count.{countFlag, countNumber, keyLength, dataLength, countFits, countClosed}
-use Rattle.format.specs.Block.{keySize, dataOffset, blockEnd, leastGap, blocksFit, keyRight, dataRight, keyInfo, dataInfo}
+use Rattle.format.specs.Fault.{sound}
+use Rattle.format.specs.Block.{keySize, dataOffset, blockEnd, leastGap, blocksFit, testKey, testData, keyInfo, dataInfo}
 use Rattle.format.specs.Written.{dataSize, innerGap, countInfo, writtenKey, writtenData, countOpening, writtenSector}
 use Rattle.format.specs.Sector.{Sector, sectorIn}
 use Rattle.format.proofs.Cells.Opening.{unmarked-append}
@@ -102,14 +103,14 @@ rest-blocks-fit last s R h =
     let r : List ℕ = writtenRest s R in
     le-leb (blockEnd r + leastGap last) (length r) (omega (arith, rest-end s R, length-rest s R))
 
--- Its key is right.
-pub rest-key-right : (s : Sector) (R : List ℕ) → keyRight (writtenRest s R) ≡ true
-unfolding keyRight
+-- Its key is sound.
+pub rest-key-right : (s : Sector) (R : List ℕ) → testKey (writtenRest s R) ≡ sound
+unfolding testKey
 rest-key-right s R = rw (rest-key-length s R, rest-at-key s R) (key-right-written (s .keyBytes) (writtenData (s .dataBytes) ++ R))
 
--- Its data block is right.
-pub rest-data-right : (s : Sector) (R : List ℕ) → dataRight (writtenRest s R) ≡ true
-unfolding dataRight
+-- Its data block is sound.
+pub rest-data-right : (s : Sector) (R : List ℕ) → testData (writtenRest s R) ≡ sound
+unfolding testData
 rest-data-right s R = rw (rest-data-length s R, rest-at-data s R) (data-right-written (s .dataBytes) R)
 
 rest-key-info : (s : Sector) (R : List ℕ) → keyInfo (writtenRest s R) ≡ s .keyBytes

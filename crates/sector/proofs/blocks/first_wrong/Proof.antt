@@ -1,0 +1,16 @@
+-- `first_wrong` meets its contract: the two tests in turn.
+use borrow.Author.Needs.{needs}
+use Rattle.sector.proofs.blocks.first_wrong.Statement.{statement}
+use Rattle.sector.proofs.blocks.first_wrong.Tie as tie
+
+returns : tie.Need-returns
+returns c = rw (c .before .if1 .taken, c .if2 .taken)
+
+returns-2 : tie.Need-returns-2
+returns-2 c = rw (c .before .if1 .taken, c .if2 .left)
+
+returns-3 : tie.Need-returns-3
+returns-3 c = rw (c .if1 .left)
+
+pub first-wrong-spec : {M : Type 1} → statement M
+first-wrong-spec = tie.close (tie.spec returns returns-2 returns-3)
