@@ -8,3 +8,4 @@ pub mod Find
 pub mod Written
 pub mod Add
 pub mod Correct
+pub mod Faults
