@@ -7,7 +7,8 @@ use mathlib.Core.List.{List, [], _∷_}
 use lib.ListN.{length, getD, length-append, length-drop}
 use lib.Dec.{leb, eqb}
 use Rattle.format.specs.Answer.{Answer, lentWrong, firstCountMissing}
-use Rattle.format.specs.Judged.{Judged, good, refused, then, require}
+use Rattle.format.specs.Fault.{Fault, Tested, sound, faulty}
+use Rattle.format.specs.Judged.{Judged, good, refused, then, require, requireSound}
 use Rattle.format.specs.Lent.{lentForReading, cells, unmarked}
 use Rattle.format.specs.Opening.{startsWith, plainOpening}
 use Rattle.format.specs.Flag.{condition}
@@ -26,7 +27,7 @@ use Rattle.base.proofs.Tests.{cases}
 use Rattle.format.proofs.Cells.Opening.{unmarked-at}
 use Rattle.format.proofs.Track.HomeLocal.{home-window}
 use Rattle.format.proofs.Find.CandidateBytes.{after-front}
-use Rattle.format.proofs.Sector.BlocksJudged.{block-fits, offsetOf, lengthOf, rightOf, wrongAt, wrong-row, part-judged, fit-good, part-in-is}
+use Rattle.format.proofs.Sector.BlocksJudged.{block-fits, offsetOf, lengthOf, testOf, wrongAt, wrong-row, part-judged, fit-good, part-in-is}
 use Rattle.station.proofs.Places.{Row, Within, within-then, within-require, cells-few, home-within, count-within, accept-within, fit-within}
 
 -- A candidate that lies within 4,002 cells and has bytes for its fields.
@@ -80,6 +81,11 @@ Inside (refused a) = Row a
 inside-require : (b : Bool) (a : Answer) (j : Judged Part) → Row a → (b ≡ true → Inside j) → Inside (require b a j)
 inside-require b a j h f = cases b (λ e. rw e (f e)) (λ e. rw e h)
 
+-- A test of a block, whose refusals are rows of the table.
+inside-sound : (t : Tested) (a : Fault → Answer) (j : Judged Part) → ((f : Fault) → Row (a f)) → Inside j → Inside (requireSound t a j)
+inside-sound sound a j h k = k
+inside-sound (faulty f) a j h k = h f
+
 -- What follows a judgement that answers so.
 inside-then : {A : Type 0} (j : Judged A) (k : A → Judged Part) → Within j → ((x : A) → j ≡ good x → Inside (k x)) → Inside (then j k)
 inside-then (good x) k h f = f x refl
@@ -97,9 +103,10 @@ wanted-inside w x a f =
     let q : ℕ = x .place + openingLength (x .first) in
     let b = block-fits w (x .last) r f in
     let l = a .rest-few (omega arith) in
-    let n = wrong-row w (q + offsetOf w r) in
     rw (part-judged w q r)
-    (inside-require (rightOf w r) (wrongAt w (q + offsetOf w r)) (good (partIn w q r)) (n .1, omega (arith, n .2)) (λ _. rw (part-in-is w q r) (part-inside (q + offsetOf w r + 6) (lengthOf w r) (omega arith))))
+    (inside-sound (testOf w r) (λ f. wrongAt w f (q + offsetOf w r)) (good (partIn w q r))
+    (λ f. let n = wrong-row w f (q + offsetOf w r) in (n .1, omega (arith, n .2)))
+    (rw (part-in-is w q r) (part-inside (q + offsetOf w r + 6) (lengthOf w r) (omega arith))))
 
 -- The part asked for of the only candidate.
 only-inside : (w : Wanted) (xs : List Candidate) → AllSmall xs

@@ -8,7 +8,8 @@ use lib.ListN.{length, drop, length-append, length-drop}
 use lib.Dec.{leb}
 use borrow.Author.Tests.{leb-true}
 use Rattle.format.specs.Answer.{Answer, lentWrong, homeCheckWrong, homeFieldsWrong, firstCountMissing, countCheckWrong, countFieldsWrong, spanTooShort, sectorRepeated}
-use Rattle.format.specs.Judged.{Judged, good, refused, then, require, answerOf}
+use Rattle.format.specs.Fault.{Fault, Tested, sound, faulty}
+use Rattle.format.specs.Judged.{Judged, good, refused, then, require, requireSound, answerOf}
 use Rattle.format.specs.Lent.{lengthRight, lentForReading, cells}
 use Rattle.format.specs.Opening.{startsWith, plainOpening, closedAfter}
 use Rattle.format.specs.Home.{Home, homeFrom, findHome, homeBytes, homeOf, homeFieldsRight, judgeHomeOf, judgeHome, firstCountPlace}
@@ -23,7 +24,7 @@ use Rattle.format.proofs.Track.HomeLocal.{found-window, home-window}
 use Rattle.format.proofs.Spans.StrayMark.{marks-stray}
 use Rattle.format.proofs.Spans.Cutting.{joined-spans}
 use Rattle.format.proofs.Track.Pairs.{lent-length}
-use Rattle.format.proofs.Sector.BlocksJudged.{block-fits, offsetOf, rightOf, wrongAt, wrong-row, part-judged, fit-good}
+use Rattle.format.proofs.Sector.BlocksJudged.{block-fits, offsetOf, testOf, wrongAt, wrong-row, part-judged, fit-good}
 
 -- An answer of the table whose place is 4,002 at most.
 abbrev pub Row : Answer → Type 0
@@ -41,6 +42,11 @@ within-then (refused a) k h f = h
 -- A test answers so, where its refusal does and what follows it does.
 pub within-require : {A : Type 0} (b : Bool) (a : Answer) (j : Judged A) → Row a → (b ≡ true → Within j) → Within (require b a j)
 within-require b a j h f = cases b (λ e. rw e (f e)) (λ e. rw e h)
+
+-- A test of a block answers so, where each of its refusals does and what follows it does.
+within-sound : {A : Type 0} (t : Tested) (a : Fault → Answer) (j : Judged A) → ((f : Fault) → Row (a f)) → Within j → Within (requireSound t a j)
+within-sound sound a j h k = k
+within-sound (faulty f) a j h k = h f
 
 -- A track that is lent within the rule has 4,002 cells at most.
 pub cells-few : (t m : List ℕ) → lentForReading t m ≡ true → length (cells t m) ≤ 4002
@@ -85,8 +91,10 @@ count-within h i x p r l =
 -- A block asked for that opens within 4,002.
 pub part-within : (w : Wanted) (q : ℕ) (r : List ℕ) → q + offsetOf w r ≤ 4002 → Within (wantedPart w (blocksAt q r))
 part-within w q r l =
-    let n = wrong-row w (q + offsetOf w r) in
-    rw (part-judged w q r) (within-require (rightOf w r) (wrongAt w (q + offsetOf w r)) (good (partIn w q r)) (n .1, omega (arith, n .2)) (λ _. (omega arith, omega arith)))
+    rw (part-judged w q r)
+    (within-sound (testOf w r) (λ f. wrongAt w f (q + offsetOf w r)) (good (partIn w q r))
+    (λ f. let n = wrong-row w f (q + offsetOf w r) in (n .1, omega (arith, n .2)))
+    (omega arith, omega arith))
 
 -- The blocks of a count at place p.
 pub fit-within : (p : ℕ) (last : Bool) (r : List ℕ) → p ≤ 4002 → Within (judgeFit p last r)

@@ -3,7 +3,7 @@ use mathlib.Core.Path.{_≡_, refl, subst}
 use Prim.Native.Nat.{ℕ, _+_, _*_, _/_, _%_, _≤_}
 use native.Mathlib.Omega.{arith}
 use mathlib.Core.List.{List}
-use Rattle.format.specs.Answer.{Answer, wantedWrong}
+use Rattle.format.specs.Answer.{Answer, done, wantedWrong}
 use Rattle.format.specs.Judged.{Judged, good, refused, answerOf}
 use Rattle.format.specs.Accept.{accept}
 use Rattle.format.specs.Find.{find}
@@ -11,12 +11,18 @@ use Rattle.format.specs.Blocks.{Wanted, Part}
 use Rattle.format.specs.Walk.{Visited, step}
 use Rattle.format.specs.PairFind.{ofFirst, pairFind}
 use Rattle.station.specs.Packed.{packedAnswer, packedBounds, packedPart, packedPaired, packedVisited, packedVisit}
+use Rattle.format.specs.BlockFault.{SecondRight}
+use Rattle.format.proofs.Faults.SecondNumber.{OutcomeRight, second-most, accept-second, find-second, pair-second}
 use Rattle.station.proofs.Places.{Row, accept-within}
 use Rattle.station.proofs.Fields.{Inside, Fits, find-inside, pair-inside, step-fits}
 
 -- Bits 0 to 7.
 abbrev pub numberIn : ℕ → ℕ
 numberIn r = r % 256
+
+-- Bits 8 and 9.
+abbrev pub faultIn : ℕ → ℕ
+faultIn r = r / 0x100 % 4
 
 -- Bit 15.
 abbrev pub whichIn : ℕ → ℕ
@@ -34,20 +40,23 @@ startIn r = r / 0x100000000 % 65536
 abbrev pub sizeIn : ℕ → ℕ
 sizeIn r = r / 0x1000000000000 % 65536
 
--- Number and place of a row of the table.
-answer-read : (a : Answer) → Row a → (numberIn (packedAnswer a) ≡ a .number) × (placeIn (packedAnswer a) ≡ a .place)
-unfolding packedAnswer
-answer-read a l = (omega arith, omega arith)
+-- The bits of r tell the answer a: its number, its second number and its place.
+abbrev pub TellsAnswer : ℕ → Answer → Type 0
+TellsAnswer r a = (numberIn r ≡ a .number) × (faultIn r ≡ a .fault) × (placeIn r ≡ a .place)
 
--- Accept's number and place.
-pub accept-read : (t m : List ℕ)
-    → (numberIn (packedAnswer (answerOf (accept t m))) ≡ answerOf (accept t m) .number) × (placeIn (packedAnswer (answerOf (accept t m))) ≡ answerOf (accept t m) .place)
-accept-read t m = answer-read (answerOf (accept t m)) (accept-within t m)
+-- A row of the table, with the second number that goes with its number.
+answer-read : (a : Answer) → Row a → SecondRight a → TellsAnswer (packedAnswer a) a
+unfolding packedAnswer
+answer-read a l s = let k = second-most a s in (omega arith, omega arith, omega arith)
+
+-- Accept's answer.
+pub accept-read : (t m : List ℕ) → TellsAnswer (packedAnswer (answerOf (accept t m))) (answerOf (accept t m))
+accept-read t m = answer-read (answerOf (accept t m)) (accept-within t m) (accept-second t m)
 
 -- The bits of r tell the outcome j and nothing else.
 abbrev pub Tells : ℕ → Judged Part → Type 0
-Tells r (good x) = (numberIn r ≡ 0) × (placeIn r ≡ 0) × (startIn r ≡ x .start) × (sizeIn r ≡ x .size)
-Tells r (refused a) = (numberIn r ≡ a .number) × (placeIn r ≡ a .place) × (startIn r ≡ 0) × (sizeIn r ≡ 0)
+Tells r (good x) = TellsAnswer r done × (startIn r ≡ x .start) × (sizeIn r ≡ x .size)
+Tells r (refused a) = TellsAnswer r a × (startIn r ≡ 0) × (sizeIn r ≡ 0)
 
 -- What stands above the low 48 bits.
 size-above : (q n : ℕ) → q ≤ 0xFFFFFFFFFFFF → n ≤ 4002 → sizeIn (q + n * 0x1000000000000) ≡ n
@@ -66,23 +75,27 @@ size-none : (r : ℕ) → r ≤ 0xFFFFFFFF → sizeIn r ≡ 0
 size-none r l = omega arith
 
 -- An outcome with the track in bit 15.
-part-read : (j : Judged Part) → Inside j → (b : ℕ) → b ≤ 1 → (whichIn (b * 32768 + packedPart j) ≡ b) × Tells (b * 32768 + packedPart j) j
+part-read : (j : Judged Part) → Inside j → OutcomeRight j → (b : ℕ) → b ≤ 1 → (whichIn (b * 32768 + packedPart j) ≡ b) × Tells (b * 32768 + packedPart j) j
 unfolding packedPart packedBounds packedAnswer
-part-read (good x) l b k = (omega arith, (omega arith, omega arith, omega arith, size-read x l b k))
-part-read (refused a) l b k = (omega arith, (omega arith, omega arith, omega arith, size-none (b * 32768 + (a .number + a .place % 65536 * 65536)) (omega arith)))
+part-read (good x) l s b k = (omega arith, ((omega arith, omega arith, omega arith), omega arith, size-read x l b k))
+part-read (refused a) l s b k =
+    let n = second-most a s in
+    (omega arith, ((omega arith, omega arith, omega arith), omega arith, size-none (b * 32768 + (a .number + a .fault % 4 * 256 + a .place % 65536 * 65536)) (omega arith)))
 
 -- Pair find's track, and its part or refusal.
 pub pair-read : (s : ℕ) (w : Wanted) (t m u v : List ℕ)
     → (whichIn (packedPaired (pairFind s w t m u v)) ≡ pairFind s w t m u v .which) × Tells (packedPaired (pairFind s w t m u v)) (pairFind s w t m u v .outcome)
 unfolding packedPaired
-pair-read s w t m u v = let i = pair-inside s w t m u v in part-read (pairFind s w t m u v .outcome) (i .1) (pairFind s w t m u v .which) (i .0)
+pair-read s w t m u v =
+    let i = pair-inside s w t m u v in
+    part-read (pairFind s w t m u v .outcome) (i .1) (pair-second s w t m u v) (pairFind s w t m u v .which) (i .0)
 
 -- Find's part or refusal.
 pub find-read : (s : ℕ) (w : Wanted) (t m : List ℕ) → Tells (packedPart (find s w t m)) (find s w t m)
 find-read s w t m =
     let r : ℕ = packedPart (find s w t m) in
     let e : 0 * 32768 + r ≡ r = omega arith in
-    subst (λ (n : ℕ). Tells n (find s w t m)) e (part-read (find s w t m) (find-inside s w t m) 0 (omega arith) .1)
+    subst (λ (n : ℕ). Tells n (find s w t m)) e (part-read (find s w t m) (find-inside s w t m) (find-second s w t m) 0 (omega arith) .1)
 
 -- The bits of r tell what a step comes to: 8 to 15 flag, 16 to 31 place, 32 to 39 S, 40 to 47 KL, 48 to 63 DL.
 abbrev pub TellsStep : ℕ → Judged Visited → Type 0

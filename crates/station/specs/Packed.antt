@@ -10,9 +10,9 @@ use Rattle.format.specs.Walk.{Visited}
 use Rattle.format.specs.Written.{After}
 use Rattle.format.specs.PairFind.{Paired, ofFirst, pairFind}
 
--- An answer: bits 0 to 7 number, 16 to 31 place.
+-- An answer: bits 0 to 7 number, 8 and 9 second number, 16 to 31 place.
 unfoldable pub packedAnswer : Answer → ℕ
-packedAnswer a = a .number + a .place % 65536 * 65536
+packedAnswer a = a .number + a .fault % 4 * 256 + a .place % 65536 * 65536
 
 -- What stands after a call that writes a pair: its packed answer, and what the lent track and marks hold.
 pub record PackedAfter : Type 0 where

@@ -10,13 +10,14 @@ pub mod bit_cells;
 pub mod reading;
 pub mod writing;
 
-// An answer: bits 0 to 7 number, 16 to 31 place.
+// An answer: bits 0 to 7 number, 8 and 9 second number, 16 to 31 place.
 fn packed_answer(a: format::Answer) -> u64
     ensures { λ r. ⌜ r ≡ packedAnswer (asAnswer a) ⌝ }
     ensures { λ r. ⌜ r ≤ 0xFFFFFFFF ⌝ }
 {
+    let fault = (a.fault % 4) as u64;
     let place = (a.place % 65536) as u64;
-    a.number as u64 + place * 65536
+    a.number as u64 + fault * 256 + place * 65536
 }
 
 // The start of a part in bits 32 to 47 and its size in bits 48 to 63.
