@@ -1,5 +1,6 @@
 // Copies the records of a track out, sound or damaged. The track is given on standard input, its bytes and behind them as many marks. Writes a line for each S that Find
-// does not answer 12 for: S, the key and the data in hexadecimal, `-` for an empty one and `!` with the answer's number for a refused one; then `ended`.
+// does not answer 12 for: S, the key and the data in hexadecimal, `-` for an empty one and `!` with the answer's number for a refused one, with 10 and 11 as in `!10.2` the second
+// number too; then `ended`.
 use libc::STDIN_FILENO;
 use libc::STDOUT_FILENO;
 use reader::Outcome;
@@ -15,22 +16,31 @@ fn write_bytes(bytes: &[u8]) {
     }
 }
 
-// The number of the answer to a part asked for.
-fn number_of(outcome: Outcome) -> u8 {
+// The answer to a part asked for.
+fn answer_of(outcome: Outcome) -> format::Answer {
     match outcome {
-        Outcome::Found(_) => 0,
-        Outcome::Refused(a) => a.number,
+        Outcome::Found(_) => format::done(),
+        Outcome::Refused(a) => a,
     }
 }
 
-// Writes a part of sector S with what follows it on the line, or the number of the answer that refuses it.
+// Writes the number of an answer and, where it has one, a dot and its second number.
+fn write_number(a: format::Answer) {
+    io::print_decimal(STDOUT_FILENO, a.number as u64);
+    if a.fault != 0 {
+        io::write_all(STDOUT_FILENO, b".");
+        io::print_decimal(STDOUT_FILENO, a.fault as u64);
+    }
+}
+
+// Writes a part of sector S with what follows it on the line, or the answer that refuses it.
 fn write_part(track: &[u8], marks: &[u8], s: u8, wanted: Wanted, end: &[u8]) {
-    let number = number_of(reader::find_part(track, marks, s, wanted));
-    if number == 0 {
+    let a = answer_of(reader::find_part(track, marks, s, wanted));
+    if a.number == 0 {
         write_bytes(reader::find(track, marks, s, wanted));
     } else {
         io::write_all(STDOUT_FILENO, b"!");
-        io::print_decimal(STDOUT_FILENO, number as u64);
+        write_number(a);
     }
     io::write_all(STDOUT_FILENO, end);
 }
@@ -38,7 +48,8 @@ fn write_part(track: &[u8], marks: &[u8], s: u8, wanted: Wanted, end: &[u8]) {
 // Writes the record of sector S, unless no candidate carries S.
 fn write_record(track: &[u8], marks: &[u8], number: usize) {
     let s = (number % 256) as u8;
-    if number_of(reader::find_part(track, marks, s, Wanted::TheKey)) == 12 {
+    let a = answer_of(reader::find_part(track, marks, s, Wanted::TheKey));
+    if a.number == 12 {
         return;
     }
     io::print_decimal(STDOUT_FILENO, s as u64);

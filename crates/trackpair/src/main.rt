@@ -1,5 +1,6 @@
 // Finds a record on a track or on the alternative that it names: `trackpair FIRST SECOND S`. Each file has a track's bytes and behind them as many marks. Writes two lines
-// for the key and two for the data: the track that the answer speaks of (1 or 2), its number and place and the part's length; and then the part itself.
+// for the key and two for the data: the track that the answer speaks of (1 or 2), its number, with 10 and 11 as in `10.2` the second number too, its place and the part's length;
+// and then the part itself.
 ghost use Prim.Native.Nat.{_≤_};
 use libc::STDERR_FILENO;
 use libc::STDOUT_FILENO;
@@ -12,6 +13,17 @@ fn write_field(n: u64) {
     io::write_all(STDOUT_FILENO, b" ");
 }
 
+// Writes the number of an answer and, where it has one, a dot and its second number; and its place.
+fn write_numbers(a: format::Answer) {
+    io::print_decimal(STDOUT_FILENO, a.number as u64);
+    if a.fault != 0 {
+        io::write_all(STDOUT_FILENO, b".");
+        io::print_decimal(STDOUT_FILENO, a.fault as u64);
+    }
+    io::write_all(STDOUT_FILENO, b" ");
+    write_field(a.place as u64);
+}
+
 // Writes which track an answer speaks of, its number and its place.
 fn write_answer(found: reader::Paired) {
     if found.second {
@@ -21,14 +33,8 @@ fn write_answer(found: reader::Paired) {
     }
     let outcome = found.outcome;
     match outcome {
-        Outcome::Found(_) => {
-            write_field(0);
-            write_field(0);
-        }
-        Outcome::Refused(a) => {
-            write_field(a.number as u64);
-            write_field(a.place as u64);
-        }
+        Outcome::Found(_) => write_numbers(format::done()),
+        Outcome::Refused(a) => write_numbers(a),
     }
 }
 
