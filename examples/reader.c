@@ -55,10 +55,30 @@ static void print_bytes(const uint8_t *part, size_t length) {
     }
 }
 
+/* What was wrong with the block that an answer speaks of, to be printed behind its place. */
+static const char *fault_words(uint64_t result) {
+    switch (iso3561_fault(result)) {
+    case ISO3561_OPENING_WRONG:
+        return ", the opening is wrong";
+    case ISO3561_CHECK_WRONG:
+        return ", the check is wrong";
+    case ISO3561_CLOSING_WRONG:
+        return ", the closing byte is wrong";
+    default:
+        return "";
+    }
+}
+
+/* Prints an answer's number and place, and what was wrong with the block. */
+static void print_answer(const char *what, uint64_t result) {
+    printf("%s: %u at %zu%s\n", what, iso3561_number(result), iso3561_place(result),
+           fault_words(result));
+}
+
 /* Prints a part of a track, or why there is none. */
 static void print_part(const struct pair *pair, uint64_t found) {
     if (iso3561_number(found) != ISO3561_DONE) {
-        printf("  data: %u at %zu\n", iso3561_number(found), iso3561_place(found));
+        print_answer("  data", found);
         return;
     }
     printf("  data: %zu bytes\n", iso3561_part_length(found));
@@ -77,11 +97,11 @@ static uint64_t walk(const struct pair *pair, uint64_t from) {
     return iso3561_walk(pair->track, pair->track_length, pair->marks, pair->marks_length, from);
 }
 
-/* Accept's number and place; gives the number. */
+/* Accept's answer; gives its number. */
 static unsigned print_judged(const struct pair *pair) {
     uint64_t judged = iso3561_accept(pair->track, pair->track_length, pair->marks,
                                      pair->marks_length);
-    printf("accept: %u at %zu\n", iso3561_number(judged), iso3561_place(judged));
+    print_answer("accept", judged);
     return iso3561_number(judged);
 }
 

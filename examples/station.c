@@ -1,6 +1,6 @@
 /*
- * A small capture station: makes a track with two sectors, reads it, corrects it,
- * and writes the pair (L track bytes, then L marks) to the file named on the command line.
+ * A small capture station: makes a track with two sectors, reads it, corrects it, tries what a damaged copy
+ * answers, and writes the pair (L track bytes, then L marks) to the file named on the command line.
  */
 #include "iso3561.h"
 
@@ -34,6 +34,15 @@ static void expect(const char *what, unsigned number, size_t place,
 /* The same for a result that should be 0 at 0. */
 static void expect_done(const char *what, uint64_t result) {
     expect(what, iso3561_number(result), iso3561_place(result), ISO3561_DONE, 0);
+}
+
+/* The same for a result about a block, with its second number. */
+static void expect_fault(const char *what, uint64_t result, unsigned wanted_number,
+                         unsigned wanted_fault, size_t wanted_place) {
+    int right = iso3561_fault(result) == wanted_fault;
+    expect(what, iso3561_number(result), iso3561_place(result), wanted_number, wanted_place);
+    printf("  second number %u%s\n", iso3561_fault(result), right ? "" : ", not expected");
+    surprises += !right;
 }
 
 /* A text filled up with blanks to the 80 bytes of a card. */
@@ -109,6 +118,30 @@ static void correct(const struct pair *old, struct pair *new_pair) {
            ISO3561_SECTOR_MISSING, 0);
 }
 
+/* The closing byte of sector 1's key is lost, then that of its data; a correction does not mend a track
+ * that is not accepted, and leaves the lent buffers as they are. */
+static void damage(const struct pair *sound) {
+    static struct pair damaged, untouched, before;
+    memset(&before, 0xA5, sizeof before);
+    untouched = before;
+    damaged = *sound;
+    damaged.track[153 + 6 + 3 + 2] = 0;
+    expect_fault("accept with a damaged key", iso3561_accept(damaged.track, L, damaged.marks, L),
+                 ISO3561_KEY_WRONG, ISO3561_CLOSING_WRONG, 153);
+    damaged = *sound;
+    damaged.track[176 + 6 + 80 + 2] = 0;
+    expect_fault("accept with damaged data", iso3561_accept(damaged.track, L, damaged.marks, L),
+                 ISO3561_DATA_WRONG, ISO3561_CLOSING_WRONG, 176);
+    expect_fault("correct sector 1 there",
+                 iso3561_correct(damaged.track, L, damaged.marks, L, untouched.track, L,
+                                 untouched.marks, L, 1, key, 3, label, 8),
+                 ISO3561_DATA_WRONG, ISO3561_CLOSING_WRONG, 176);
+    if (memcmp(&untouched, &before, sizeof before) != 0) {
+        printf("a refusal has written\n");
+        surprises++;
+    }
+}
+
 /* The pair as the listing program reads it. */
 static int save(const char *name, const struct pair *pair) {
     FILE *file = fopen(name, "wb");
@@ -138,5 +171,6 @@ int main(int count, char **words) {
     walk(&two);
     correct(&two, &three);
     find(&three, record);
+    damage(&three);
     return save(words[1], &three) && surprises == 0 ? 0 : 1;
 }

@@ -35,14 +35,23 @@ enum iso3561_number {
     ISO3561_COUNT_CHECK_WRONG = 7,   /* a count's check or closing byte is wrong */
     ISO3561_COUNT_FIELDS_WRONG = 8,  /* a count's flag, cylinder or head is out of rule */
     ISO3561_SPAN_TOO_SHORT = 9,      /* a count, its blocks or the least gap do not fit the span */
-    ISO3561_KEY_WRONG = 10,          /* the key does not open, or fails its check or closing byte */
-    ISO3561_DATA_WRONG = 11,         /* the data block likewise, or is not 00 for DL = 0 */
+    ISO3561_KEY_WRONG = 10,          /* the key's opening, check or closing byte is wrong: see enum iso3561_fault */
+    ISO3561_DATA_WRONG = 11,         /* the data block's likewise, or it is not 00 for DL = 0 */
     ISO3561_SECTOR_MISSING = 12,     /* no candidate carries S, or none is left to walk to */
     ISO3561_SECTOR_REPEATED = 13,    /* two sectors carry one number, or Add repeats one */
     ISO3561_WANTED_WRONG = 14,       /* a wanted field is out of rule */
     ISO3561_ROOM_MISSING = 15,       /* fewer than 13 bytes would be left behind the last block */
     ISO3561_PAIR_WRONG = 16,         /* the two tracks do not agree, or the first is flagged 11 */
     ISO3561_PATTERN_WRONG = 17       /* a byte's bit cells are no legal pattern, or a marked byte is not FF */
+};
+
+/* The second number of an answer: what was wrong with the block, the first in this order.
+ * It is 0 but with ISO3561_KEY_WRONG and ISO3561_DATA_WRONG, which always have one of the others. */
+enum iso3561_fault {
+    ISO3561_NO_FAULT = 0,      /* the answer is about no block */
+    ISO3561_OPENING_WRONG = 1, /* the block does not open */
+    ISO3561_CHECK_WRONG = 2,   /* it opens but its check is wrong; for DL = 0 the wrong 00 counts as check */
+    ISO3561_CLOSING_WRONG = 3  /* opening and check are right, the closing byte CC is not; never for DL = 0 */
 };
 
 /* What Find and Pair find are asked for. */
@@ -56,6 +65,11 @@ enum iso3561_wanted {
 /* The answer's number. */
 static inline unsigned iso3561_number(uint64_t result) {
     return (unsigned)(result & 0xFF);
+}
+
+/* The answer's second number, an enum iso3561_fault: 0 but with answers 10 and 11. Walk's results have none. */
+static inline unsigned iso3561_fault(uint64_t result) {
+    return (unsigned)(result >> 8 & 3);
 }
 
 /* The place the answer speaks of, in bytes after index. */
@@ -112,19 +126,20 @@ static inline uint16_t iso3561_walk_dl(uint64_t result) {
 
 /* ==== Reading calls: all slices are lent for reading, nothing is written ==== */
 
-/* Accept: judges the whole track. */
+/* Accept: judges the whole track. With answers 10 and 11 iso3561_fault says what was wrong with the block. */
 uint64_t iso3561_accept(const uint8_t *track, size_t track_length,
                         const uint8_t *marks, size_t marks_length);
 
 /* Find: the key or data of the one sector with this number, on any track, sound or damaged.
  * The part lies in the lent track; a refusal has an empty part. `wanted` is an enum iso3561_wanted;
- * any other value is answer 14, before anything else is looked at. */
+ * any other value is answer 14, before anything else is looked at. With answers 10 and 11 iso3561_fault says
+ * what was wrong with the block that was asked for; the sector's other block is not looked at. */
 uint64_t iso3561_find(const uint8_t *track, size_t track_length,
                       const uint8_t *marks, size_t marks_length,
                       uint8_t sector, uint8_t wanted);
 
 /* Pair find: as Find, from a track or from the alternative that it names.
- * The part lies in the track that iso3561_which tells. */
+ * The part lies in the track that iso3561_which tells; number, fault and place are of that track too. */
 uint64_t iso3561_pair_find(const uint8_t *track, size_t track_length,
                            const uint8_t *marks, size_t marks_length,
                            const uint8_t *second_track, size_t second_track_length,
@@ -149,7 +164,8 @@ uint64_t iso3561_blank(uint8_t *track, size_t track_length,
                        const uint8_t *data, size_t data_length);
 
 /* Add: copies the track with one more sector after the last. The new track and marks, of the
- * same L, are written; all else is read. `b7` is 1 if the record runs on elsewhere. */
+ * same L, are written; all else is read. `b7` is 1 if the record runs on elsewhere.
+ * A track that Accept refuses is refused here with the same number, fault and place. */
 uint64_t iso3561_add(const uint8_t *track, size_t track_length,
                      const uint8_t *marks, size_t marks_length,
                      uint8_t *new_track, size_t new_track_length,
@@ -159,7 +175,8 @@ uint64_t iso3561_add(const uint8_t *track, size_t track_length,
                      const uint8_t *data, size_t data_length);
 
 /* Correct: copies the track with a new key and new data for one sector. The new track and
- * marks, of the same L, are written; all else is read. */
+ * marks, of the same L, are written; all else is read.
+ * A track that Accept refuses is refused here with the same number, fault and place. */
 uint64_t iso3561_correct(const uint8_t *track, size_t track_length,
                          const uint8_t *marks, size_t marks_length,
                          uint8_t *new_track, size_t new_track_length,

@@ -2,27 +2,23 @@
 
 use crate::jobs::Job;
 use reference::Part;
-use station::{NewBody, Wanted};
+use station::{Fault, NewBody, Wanted};
 
-/// What one call gave: number, place, and a part's start and length.
-pub type Outcome = (u8, usize, usize, usize);
+/// What one call gave: number, second number, place, and a part's start and length.
+pub type Outcome = (u8, u8, usize, usize, usize);
 
 /// One call on one track of a pack.
 pub type Call = fn(&mut Job) -> Outcome;
 
-/// An outcome without a part.
-fn plain(number: u8, place: usize) -> Outcome {
-    (number, place, 0, 0)
-}
-
-/// The outcome of an answer by the proved library.
+/// The outcome of an answer by the proved library, without a part.
 fn ours(answer: station::Answer) -> Outcome {
-    plain(answer.number, answer.place)
+    let fault = answer.fault.map_or(0, Fault::number);
+    (answer.number, fault, answer.place, 0, 0)
 }
 
-/// The outcome of an answer by the reference.
+/// The outcome of an answer by the reference, without a part.
 fn theirs(answer: reference::Answer) -> Outcome {
-    plain(answer.number, answer.place)
+    (answer.number, answer.fault, answer.place, 0, 0)
 }
 
 /// Accept by the proved library.
@@ -39,10 +35,10 @@ pub fn accept_theirs(job: &mut Job) -> Outcome {
 pub fn find_ours(job: &mut Job) -> Outcome {
     match station::find(&job.track, &job.marks, job.s, Wanted::Data) {
         Err(answer) => ours(answer),
-        Ok([]) => plain(0, 0),
+        Ok([]) => ours(station::Answer::DONE),
         Ok(part) => {
             let start = part.as_ptr() as usize - job.track.as_ptr() as usize;
-            (0, 0, start, part.len())
+            (0, 0, 0, start, part.len())
         }
     }
 }
@@ -52,7 +48,10 @@ pub fn find_theirs(job: &mut Job) -> Outcome {
     let (answer, range) = reference::find(&job.track, &job.marks, job.s, Part::Data);
     match range.is_empty() {
         true => theirs(answer),
-        false => (answer.number, answer.place, range.start, range.len()),
+        false => {
+            let (number, fault, place, ..) = theirs(answer);
+            (number, fault, place, range.start, range.len())
+        }
     }
 }
 

@@ -152,13 +152,11 @@ fn judge_blocks(track: &[u8], count: &Count, fields: &Fields) -> Result<Placed, 
         return Err(Answer::new(SPAN, count.place));
     }
     if let Some(key) = blocks.key {
-        if !key_right(track, key, fields.kl) {
-            return Err(Answer::new(KEY, key));
-        }
+        let wrong = |fault| Answer::block(KEY, fault, key);
+        key_right(track, key, fields.kl).map_err(wrong)?;
     }
-    if !data_right(track, blocks.data, fields.dl) {
-        return Err(Answer::new(DATA, blocks.data));
-    }
+    let wrong = |fault| Answer::block(DATA, fault, blocks.data);
+    data_right(track, blocks.data, fields.dl).map_err(wrong)?;
     Ok(Placed {
         count: *count,
         fields: *fields,

@@ -1,9 +1,11 @@
 //! The answers of the calls.
 
-/// What a call answers: a number and the place on the track it speaks of.
+/// What a call answers: a number, a second number and the place on the track it speaks of.
 #[derive(Clone, Copy, PartialEq, Eq, Debug)]
 pub struct Answer {
     pub number: u8,
+    /// The second number: with answers 10 and 11 the first thing wrong with the block, else 0.
+    pub fault: u8,
     pub place: usize,
 }
 
@@ -44,12 +46,32 @@ pub const PAIR: u8 = 16;
 /// 17: bit cells of no legal pattern, or a mark on another value than `FF`.
 pub const BIT_CELLS: u8 = 17;
 
+/// Second number 1: the block does not open.
+pub const OPENING: u8 = 1;
+/// Second number 2: it opens but fails its check, or is not the one zero byte of an empty data block.
+pub const CHECK: u8 = 2;
+/// Second number 3: it opens and passes its check but has another end byte.
+pub const CLOSING: u8 = 3;
+
 impl Answer {
     /// The answer of a call that succeeded.
     pub const OK: Answer = Answer::new(DONE, 0);
 
     /// An answer about one place.
     pub const fn new(number: u8, place: usize) -> Answer {
-        Answer { number, place }
+        Answer {
+            number,
+            fault: 0,
+            place,
+        }
+    }
+
+    /// An answer about the block that opens at a place, [`KEY`] or [`DATA`], and what is wrong with it.
+    pub const fn block(number: u8, fault: u8, place: usize) -> Answer {
+        Answer {
+            number,
+            fault,
+            place,
+        }
     }
 }

@@ -1,5 +1,6 @@
 //! Where the parts of a track lie, and how their fields are read.
 
+use crate::answer::{CHECK, CLOSING, OPENING};
 use crate::check::check;
 use std::ops::Range;
 
@@ -156,10 +157,21 @@ pub fn later_count(marks: &[u8], place: usize) -> Count {
     }
 }
 
-/// Check and end byte after information of the given length.
+/// Check bytes right after the information.
+fn check_right(track: &[u8], information: Range<usize>) -> bool {
+    let end = information.end;
+    track[end..].starts_with(&check(&track[information]))
+}
+
+/// End byte after information that ends at a place, and its check.
+fn end_byte_right(track: &[u8], information_end: usize) -> bool {
+    track.get(information_end + 2) == Some(&END_BYTE)
+}
+
+/// Check and end byte after the information.
 pub fn trailer_right(track: &[u8], information: Range<usize>) -> bool {
-    let [high, low] = check(&track[information.clone()]);
-    track[information.end..].starts_with(&[high, low, END_BYTE])
+    let end = information.end;
+    check_right(track, information) && end_byte_right(track, end)
 }
 
 /// Two bytes as a number, most significant first.
@@ -238,18 +250,27 @@ impl Count {
     }
 }
 
-/// Key block: opening, check and end byte.
-pub fn key_right(track: &[u8], opening: usize, kl: u8) -> bool {
-    let start = opening + 6;
-    short_opening_at(track, opening) && trailer_right(track, start..start + usize::from(kl))
+/// Key block: the first that is wrong of opening, check and end byte.
+pub fn key_right(track: &[u8], opening: usize, kl: u8) -> Result<(), u8> {
+    block_right(track, opening, usize::from(kl))
 }
 
-/// Data block: opening, check and end byte, or opening and one zero byte.
-pub fn data_right(track: &[u8], opening: usize, dl: u16) -> bool {
-    let start = opening + 6;
-    short_opening_at(track, opening)
-        && match usize::from(dl) {
-            0 => track[start] == 0,
-            dl => trailer_right(track, start..start + dl),
-        }
+/// Data block: the first that is wrong of opening, check and end byte, or of opening and one zero byte.
+pub fn data_right(track: &[u8], opening: usize, dl: u16) -> Result<(), u8> {
+    block_right(track, opening, usize::from(dl))
+}
+
+/// What is wrong with a block; without information its one zero byte counts as check, and it has no end byte.
+fn block_right(track: &[u8], opening: usize, length: usize) -> Result<(), u8> {
+    let (start, end) = (opening + 6, opening + 6 + length);
+    let (checks, closes) = match length {
+        0 => (track[start] == 0, true),
+        _ => (check_right(track, start..end), end_byte_right(track, end)),
+    };
+    match (short_opening_at(track, opening), checks, closes) {
+        (false, _, _) => Err(OPENING),
+        (true, false, _) => Err(CHECK),
+        (true, true, false) => Err(CLOSING),
+        (true, true, true) => Ok(()),
+    }
 }

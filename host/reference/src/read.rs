@@ -102,21 +102,19 @@ fn only_count(track: &[u8], marks: &[u8], s: u8) -> Result<(Count, Fields), Answ
 
 /// Answer 10, and the key's information.
 fn key_part(track: &[u8], blocks: &Blocks, kl: u8) -> Result<Range<usize>, Answer> {
-    match blocks.key {
-        None => Ok(0..0),
-        Some(opening) if key_right(track, opening, kl) => {
-            Ok(opening + 6..opening + 6 + usize::from(kl))
-        }
-        Some(opening) => Err(Answer::new(KEY, opening)),
-    }
+    let Some(opening) = blocks.key else {
+        return Ok(0..0);
+    };
+    key_right(track, opening, kl).map_err(|fault| Answer::block(KEY, fault, opening))?;
+    let start = opening + 6;
+    Ok(start..start + usize::from(kl))
 }
 
 /// Answer 11, and the data's information.
 fn data_part(track: &[u8], blocks: &Blocks, dl: u16) -> Result<Range<usize>, Answer> {
-    if !data_right(track, blocks.data, dl) {
-        return Err(Answer::new(DATA, blocks.data));
-    }
-    let start = blocks.data + 6;
+    let opening = blocks.data;
+    data_right(track, opening, dl).map_err(|fault| Answer::block(DATA, fault, opening))?;
+    let start = opening + 6;
     Ok(start..start + usize::from(dl))
 }
 

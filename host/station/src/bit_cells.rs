@@ -45,7 +45,7 @@ extern "C" {
 /// // One clock of the byte at 90 is lost.
 /// bit_cells[2 * 90] ^= 0x80;
 /// let refused = from_cells(&bit_cells, &mut read, &mut read_marks);
-/// assert_eq!(refused, Answer { number: 17, place: 90 });
+/// assert_eq!(refused, Answer { number: 17, fault: None, place: 90 });
 /// ```
 pub fn from_cells(bit_cells: &[u8], track: &mut [u8], marks: &mut [u8]) -> Answer {
     // SAFETY: all slices are lent whole, and the two written ones are borrowed alone.
@@ -87,7 +87,7 @@ pub fn from_cells(bit_cells: &[u8], track: &mut [u8], marks: &mut [u8]) -> Answe
 /// // A mark on 0E.
 /// marks[35] = 1;
 /// let refused = to_cells(&track, &marks, &mut bit_cells);
-/// assert_eq!(refused, Answer { number: 17, place: 35 });
+/// assert_eq!(refused, Answer { number: 17, fault: None, place: 35 });
 /// ```
 pub fn to_cells(track: &[u8], marks: &[u8], bit_cells: &mut [u8]) -> Answer {
     // SAFETY: all slices are lent whole, and the written one is borrowed alone.

@@ -26,5 +26,5 @@ pub use bit_cells::{from_cells, to_cells};
 pub use reading::{
     accept, candidates, find, pair_find, walk_from, Candidates, Lent, Wanted, Which,
 };
-pub use result::{Answer, Candidate};
+pub use result::{Answer, Candidate, Fault};
 pub use writing::{add, blank, correct, Address, NewBody, NewSector, NewTrack};

@@ -66,6 +66,33 @@ impl Wanted {
 }
 
 /// Accept: judges the whole track.
+///
+/// A key or data block that is wrong is refused with 10 or 11, and with what was wrong with it.
+///
+/// ```
+/// use station::{accept, blank, find, Answer, Fault, NewTrack, Wanted};
+///
+/// let (mut track, mut marks) = (vec![0; 3_906], vec![0; 3_906]);
+/// let wanted = NewTrack {
+///     key: b"KEY",
+///     data: b"ISO 3561",
+///     ..NewTrack::default()
+/// };
+/// assert!(blank(&mut track, &mut marks, &wanted).is_done());
+/// assert!(accept(&track, &marks).is_done());
+///
+/// // The key's block opens at 84; its closing byte follows three bytes of key and two of check.
+/// track[84 + 6 + 3 + 2] = 0xCD;
+/// let refused = accept(&track, &marks);
+/// assert_eq!(refused, Answer { number: 10, fault: Some(Fault::Closing), place: 84 });
+/// assert_eq!(refused.to_string(), "answer 10 at 84: the closing byte is wrong");
+/// assert_eq!(find(&track, &marks, 0, Wanted::Key), Err(refused));
+/// assert_eq!(find(&track, &marks, 0, Wanted::Data), Ok(&b"ISO 3561"[..]));
+///
+/// // A wrong opening comes before it.
+/// track[84] = 0xCD;
+/// assert_eq!(accept(&track, &marks).fault, Some(Fault::Opening));
+/// ```
 pub fn accept(track: &[u8], marks: &[u8]) -> Answer {
     // SAFETY: both slices are lent whole and for reading only.
     let word = unsafe { iso3561_accept(track.as_ptr(), track.len(), marks.as_ptr(), marks.len()) };
@@ -184,6 +211,7 @@ mod tests {
 
     const UNKNOWN: Answer = Answer {
         number: 14,
+        fault: None,
         place: 0,
     };
 

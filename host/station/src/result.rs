@@ -4,11 +4,45 @@ use std::error::Error;
 use std::fmt;
 use std::ops::Range;
 
-/// What a call answers: a number and the place on the track it speaks of.
+/// What was wrong with a key or a data block: the first that is wrong, in this order.
+#[derive(Clone, Copy, PartialEq, Eq, Debug, Hash)]
+pub enum Fault {
+    /// The block does not open.
+    Opening,
+    /// It opens, but its check is wrong; of an empty data block, its one byte is not `00`.
+    Check,
+    /// It opens and passes its check, but its closing byte is not `CC`.
+    Closing,
+}
+
+impl Fault {
+    /// The second number that stands for it in an answer.
+    pub fn number(self) -> u8 {
+        match self {
+            Fault::Opening => 1,
+            Fault::Check => 2,
+            Fault::Closing => 3,
+        }
+    }
+}
+
+impl fmt::Display for Fault {
+    fn fmt(&self, f: &mut fmt::Formatter<'_>) -> fmt::Result {
+        f.write_str(match self {
+            Fault::Opening => "the opening is wrong",
+            Fault::Check => "the check is wrong",
+            Fault::Closing => "the closing byte is wrong",
+        })
+    }
+}
+
+/// What a call answers: a number, what was wrong with the block, and the place on the track it speaks of.
 #[must_use]
 #[derive(Clone, Copy, PartialEq, Eq, Debug, Hash)]
 pub struct Answer {
     pub number: u8,
+    /// Given with numbers 10 and 11, and with no other.
+    pub fault: Option<Fault>,
     pub place: usize,
 }
 
@@ -16,6 +50,7 @@ impl Answer {
     /// The answer of a call that did what was asked.
     pub const DONE: Answer = Answer {
         number: 0,
+        fault: None,
         place: 0,
     };
 
@@ -35,7 +70,11 @@ impl Answer {
 
 impl fmt::Display for Answer {
     fn fmt(&self, f: &mut fmt::Formatter<'_>) -> fmt::Result {
-        write!(f, "answer {} at {}", self.number, self.place)
+        write!(f, "answer {} at {}", self.number, self.place)?;
+        match self.fault {
+            Some(fault) => write!(f, ": {fault}"),
+            None => Ok(()),
+        }
     }
 }
 
@@ -61,24 +100,48 @@ impl Word {
         self.0 >> from & ((1 << (to - from)) - 1)
     }
 
-    /// Number and place, of every call.
+    /// The answer's number, of every call.
+    fn number(self) -> u8 {
+        self.bits(0, 8) as u8
+    }
+
+    /// The place it speaks of, of every call.
+    fn place(self) -> usize {
+        self.bits(16, 32) as usize
+    }
+
+    /// What was wrong with the block, of every call but Walk.
+    fn fault(self) -> Option<Fault> {
+        match self.bits(8, 10) {
+            0 => None,
+            1 => Some(Fault::Opening),
+            2 => Some(Fault::Check),
+            _ => Some(Fault::Closing),
+        }
+    }
+
+    /// Number, fault and place, of every call but Walk.
     pub fn answer(self) -> Answer {
+        let (number, fault) = (self.number(), self.fault());
+        let of_a_block = number == 10 || number == 11;
+        debug_assert_eq!(fault.is_some(), of_a_block, "fault of {:016x}", self.0);
+        debug_assert_eq!(self.bits(10, 15), 0, "unused bits of {:016x}", self.0);
         Answer {
-            number: self.bits(0, 8) as u8,
-            place: self.bits(16, 32) as usize,
+            number,
+            fault,
+            place: self.place(),
         }
     }
 
     /// The answer of a call that says nothing more; the other bits are 0.
     pub fn only_answer(self) -> Answer {
-        debug_assert_eq!(self.bits(8, 16), 0, "unused bits of {:016x}", self.0);
+        debug_assert_eq!(self.bits(15, 16), 0, "unused bits of {:016x}", self.0);
         debug_assert_eq!(self.bits(32, 64), 0, "unused bits of {:016x}", self.0);
         self.answer()
     }
 
     /// Which track Pair find speaks of: 0 the first, 1 the second.
     pub fn which(self) -> u64 {
-        debug_assert_eq!(self.bits(8, 15), 0, "unused bits of {:016x}", self.0);
         self.bits(15, 16)
     }
 
@@ -94,15 +157,18 @@ impl Word {
         Err(answer)
     }
 
-    /// What Walk gives, which has its own layout.
+    /// What Walk gives, which has its own layout: the flag stands where other calls have the fault.
     pub fn candidate(self) -> Result<Candidate, Answer> {
-        let answer = self.answer();
-        if !answer.is_done() {
-            debug_assert_eq!(self.0, u64::from(answer.number), "refusal with fields");
-            return Err(answer);
+        let number = self.number();
+        if number != 0 {
+            debug_assert_eq!(self.0, u64::from(number), "refusal with fields");
+            return Err(Answer {
+                number,
+                ..Answer::DONE
+            });
         }
         Ok(Candidate {
-            place: answer.place,
+            place: self.place(),
             flag: self.bits(8, 16) as u8,
             s: self.bits(32, 40) as u8,
             kl: self.bits(40, 48) as u8,
@@ -123,12 +189,53 @@ mod tests {
         let refused = Word(0x0000_0000_007A_0009);
         let answer = Answer {
             number: 9,
+            fault: None,
             place: 0x7A,
         };
         assert_eq!((refused.which(), refused.part()), (0, Err(answer)));
         assert_eq!(refused.only_answer(), answer);
         assert_eq!((answer.done(), Answer::DONE.done()), (Err(answer), Ok(())));
         assert_eq!(answer.to_string(), "answer 9 at 122");
+    }
+
+    /// Answers 10 and 11 with each fault, of either track.
+    #[test]
+    fn faults_of_a_result() {
+        let cases = [
+            (Fault::Opening, 1, "the opening is wrong"),
+            (Fault::Check, 2, "the check is wrong"),
+            (Fault::Closing, 3, "the closing byte is wrong"),
+        ];
+        for (fault, second, words) in cases {
+            for number in [10, 11] {
+                let answer = Answer {
+                    number,
+                    fault: Some(fault),
+                    place: 153,
+                };
+                let word = 153 << 16 | second << 8 | u64::from(number);
+                assert_eq!(Word(word).only_answer(), answer);
+                assert_eq!((Word(word).which(), Word(word).part()), (0, Err(answer)));
+                let other = Word(word | 0x8000);
+                assert_eq!((other.which(), other.part()), (1, Err(answer)));
+                let told = format!("answer {number} at 153: {words}");
+                assert_eq!(answer.to_string(), told);
+            }
+            assert_eq!(u64::from(fault.number()), second);
+        }
+    }
+
+    /// Words that no call gives are noticed: a fault without its number, a number without a fault, and bits without use.
+    #[cfg(debug_assertions)]
+    #[test]
+    fn words_out_of_rule() {
+        let numbers = (0..=17).filter(|number| ![10, 11].contains(number));
+        let with_fault = numbers.flat_map(|number| [0x100, 0x200, 0x300].map(|f| f | number));
+        let unused = [10, 11, 12, 13, 14].map(|bit| 1 << bit | 0x20A);
+        for word in with_fault.chain([10, 11]).chain(unused) {
+            let taken = std::panic::catch_unwind(|| Word(word).answer());
+            assert!(taken.is_err(), "{word:016x}");
+        }
     }
 
     /// Every field of a step from its own bits.
@@ -142,8 +249,12 @@ mod tests {
             dl: 80,
         };
         assert_eq!(Word(0x0050_0301_007A_8000).candidate(), Ok(candidate));
+        let flag = 0xFF;
+        let flagged = Candidate { flag, ..candidate };
+        assert_eq!(Word(0x0050_0301_007A_FF00).candidate(), Ok(flagged));
         let none = Answer {
             number: 12,
+            fault: None,
             place: 0,
         };
         assert_eq!(Word(12).candidate(), Err(none));

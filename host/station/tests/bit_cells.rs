@@ -80,7 +80,7 @@ fn from_cells_as_the_reference() {
         let w = wanted_from_cells(seed);
         let before = noise(seed, w.length, w.marks_length);
         let (done, read) = read_by_both(&w.bit_cells, before, &note);
-        tally.count(done.number);
+        tally.count(done);
         if done.is_done() {
             sent_to(lent(&read), &w.bit_cells, seed, &note);
         }
@@ -97,7 +97,7 @@ fn to_cells_as_the_reference() {
         let track = (w.track, w.marks);
         let before = noisy_cells(seed, w.bit_cells_length);
         let (done, sent) = send_by_both(lent(&track), before, &note);
-        tally.count(done.number);
+        tally.count(done);
         if done.is_done() {
             read_from(&sent, &track, seed, &note);
         }
@@ -126,14 +126,14 @@ fn written_tracks_survive() {
             continue;
         }
         through_the_drive(&track, seed, w.s, &w.key, &w.data, &note);
-        tally.count(0);
+        tally.count(Answer::DONE);
         for step in 1..=3 {
             let w = wanted_add(seed ^ step << 40, &track.0, &track.1);
             let mut new = noise(step, track.0.len(), track.1.len());
             let done = station::add(lent(&track), &mut new.0, &mut new.1, &new_sector(&w));
             if done.is_done() {
                 through_the_drive(&new, seed, w.s, &w.key, &w.data, &note);
-                tally.count(0);
+                tally.count(Answer::DONE);
                 track = new;
             }
         }
@@ -142,7 +142,7 @@ fn written_tracks_survive() {
         let done = station::correct(lent(&track), &mut new.0, &mut new.1, &new_body(&w));
         if done.is_done() {
             through_the_drive(&new, seed, w.s, &w.key, &w.data, &note);
-            tally.count(0);
+            tally.count(Answer::DONE);
             marked += u64::from(new.1.contains(&1));
         }
     }

@@ -2,9 +2,10 @@
 
 mod common;
 
-use common::Tally;
-use reference::generate::{damaged, pair, sound, Rng};
+use common::{answer, expected, told, Tally};
+use reference::generate::{damaged, pair, sound, spoiled, Rng};
 use reference::{find, pair_find, Part};
+use station::Answer;
 use std::io::{ErrorKind, Write};
 use std::path::{Path, PathBuf};
 use std::process::{ChildStdin, Command, Stdio};
@@ -83,26 +84,21 @@ fn altered(rng: &mut Rng, mut input: Vec<u8>) -> Vec<u8> {
 /// The input of a seed.
 fn input_of(seed: u64, rng: &mut Rng) -> Vec<u8> {
     match seed % 8 {
-        0 | 1 => joined(sound(seed)),
+        0 => joined(sound(seed)),
+        1 => joined(spoiled(seed)),
         2..=5 => joined(damaged(seed)),
         6 => misfit(rng),
         _ => altered(rng, joined(sound(seed))),
     }
 }
 
-/// The number that an expected output tells.
-fn number_of(output: &[u8]) -> u8 {
-    let text = String::from_utf8_lossy(output);
-    match text.strip_prefix("refused ") {
-        Some(number) => number.trim().parse().expect("a number"),
-        None => 0,
-    }
-}
+/// The answers that an output tells, and the output.
+type Told = (Vec<Answer>, String);
 
 /// What trackwalk prints by the reference: a line for each candidate, and the number that ends the walk.
-fn walked(input: &[u8]) -> (u8, String) {
+fn walked(input: &[u8]) -> Told {
     if input.len() % 2 == 1 {
-        return (1, "ended 1\n".to_string());
+        return (vec![answer(1, 0)], "ended 1\n".to_string());
     }
     let (track, marks) = input.split_at(input.len() / 2);
     let mut walk = reference::Walk::new(track, marks);
@@ -110,7 +106,12 @@ fn walked(input: &[u8]) -> (u8, String) {
     loop {
         match walk.step() {
             Ok(c) => lines += &format!("{} {} {} {} {}\n", c.place, c.flag, c.s, c.kl, c.dl),
-            Err(answer) => return (answer.number, lines + &format!("ended {}\n", answer.number)),
+            Err(end) => {
+                return (
+                    vec![expected(end)],
+                    lines + &format!("ended {}\n", end.number),
+                )
+            }
         }
     }
 }
@@ -123,51 +124,60 @@ fn hexadecimal(bytes: &[u8]) -> String {
     }
 }
 
-/// What trackdump prints of a part: its bytes, or the number that refuses it.
-fn dumped_part(track: &[u8], marks: &[u8], s: u8, part: Part) -> String {
+/// What trackdump prints of a part: its bytes, or the number that refuses it, with the second behind a dot.
+fn dumped_part(track: &[u8], marks: &[u8], s: u8, part: Part) -> (Answer, String) {
     let (done, range) = find(track, marks, s, part);
-    match done.number {
-        0 => hexadecimal(&track[range]),
-        number => format!("!{number}"),
+    let done = expected(done);
+    match done.is_done() {
+        true => (done, hexadecimal(&track[range])),
+        false => (done, format!("!{}", told(done))),
     }
 }
 
-/// What trackdump prints by the reference: S, key and data of each S that some candidate carries.
-fn dumped(input: &[u8]) -> (u8, String) {
+/// What trackdump prints by the reference: S, key and data of each S that some candidate carries; it tells an answer for each part.
+fn dumped(input: &[u8]) -> Told {
     let (track, marks) = input.split_at(input.len() / 2);
     if reference::accept(track, marks).number == 1 {
-        return (1, "refused 1\n".to_string());
+        return (vec![answer(1, 0)], "refused 1\n".to_string());
     }
-    let mut lines = String::new();
+    let (mut answers, mut lines) = (vec![], String::new());
     for s in 0..=255 {
-        let [key, data] = [Part::Key, Part::Data].map(|part| dumped_part(track, marks, s, part));
+        let parts = [Part::Key, Part::Data].map(|part| dumped_part(track, marks, s, part));
+        let [(of_key, key), (of_data, data)] = parts;
         if key != "!12" {
+            answers.extend([of_key, of_data]);
             lines += &format!("{s} {key} {data}\n");
         }
     }
-    (0, lines + "ended\n")
+    (answers, lines + "ended\n")
 }
 
 /// Runs a program on the inputs of the seeds and compares what it prints with what is expected.
-fn compare(name: &'static str, runs: u64, numbers: &[u8], expected: fn(&[u8]) -> (u8, String)) {
+fn compare(name: &'static str, runs: u64, numbers: &[u8], expected: fn(&[u8]) -> Told) {
     let program = program(name);
     let mut tally = Tally::new(name, runs);
     for seed in tally.seeds() {
         let mut rng = Rng::new(seed ^ 0x7AC1);
         let input = input_of(seed, &mut rng);
         let piece = rng.pick(&[1_000_000, 4_096, 1_000, 333]);
-        let (number, lines) = expected(&input);
-        tally.count(number);
+        let (answers, lines) = expected(&input);
+        answers.into_iter().for_each(|answer| tally.count(answer));
         let text = printed(&program, &input, piece);
         assert_eq!(String::from_utf8_lossy(&text), lines, "seed {seed}");
     }
     tally.finish(300, numbers);
 }
 
-/// What tracklist prints by the reference, with the number that it tells.
-fn listed(input: &[u8]) -> (u8, String) {
+/// What tracklist prints by the reference, with Accept's answer; a refusal's line has the number and never the second.
+fn listed(input: &[u8]) -> Told {
     let text = reference::tracklist(input);
-    (number_of(&text), String::from_utf8_lossy(&text).to_string())
+    let text = String::from_utf8_lossy(&text).to_string();
+    let (track, marks) = input.split_at(input.len() / 2);
+    let done = expected(reference::accept(track, marks));
+    if !done.is_done() {
+        assert_eq!(text, format!("refused {}\n", done.number));
+    }
+    (vec![done], text)
 }
 
 #[test]
@@ -178,7 +188,7 @@ fn tracklist_as_the_reference() {
 
 #[test]
 fn trackdump_as_the_reference() {
-    compare("trackdump", 400, &[0, 1], dumped);
+    compare("trackdump", 400, &[0, 1, 9, 10, 11, 13], dumped);
 }
 
 #[test]
@@ -186,12 +196,13 @@ fn trackwalk_as_the_reference() {
     compare("trackwalk", 1_600, &[1, 12], walked);
 }
 
-/// The two files of a seed for trackpair: a generated pair, one with a damaged second track, or inputs of any kind.
+/// The two files of a seed for trackpair: a generated pair, one with a damaged second track or a wrong block on it, or inputs of any kind.
 fn two_inputs(seed: u64, rng: &mut Rng) -> [Vec<u8>; 2] {
     let pair = pair(seed);
-    match seed % 4 {
-        0 | 1 => [joined(pair.first), joined(pair.second)],
+    match seed % 8 {
+        0 | 1 | 4 | 5 => [joined(pair.first), joined(pair.second)],
         2 => [joined(pair.first), joined(damaged(seed))],
+        6 => [joined(pair.first), joined(spoiled(seed))],
         _ => [input_of(seed / 4, rng), input_of(seed / 4 + 1, rng)],
     }
 }
@@ -209,13 +220,12 @@ fn some_number(rng: &mut Rng, inputs: &[Vec<u8>; 2]) -> u8 {
     rng.pick(&numbers)
 }
 
-/// What trackpair prints by the reference, with the data's answer: the key's answer and bytes, then the data's.
-fn paired(inputs: &[Vec<u8>; 2], s: u8) -> (u8, Vec<u8>) {
+/// What trackpair prints by the reference, with both answers: the key's answer and bytes, then the data's.
+fn paired(inputs: &[Vec<u8>; 2], s: u8) -> (Vec<Answer>, Vec<u8>) {
     let [first, second] = inputs
         .each_ref()
         .map(|input| input.split_at(input.len() / 2));
-    let mut printed = vec![];
-    let mut number = 0;
+    let (mut answers, mut printed) = (vec![], vec![]);
     for (name, part) in [("key", Part::Key), ("data", Part::Data)] {
         let (done, which, range) = pair_find(first, second, s, part);
         let bytes = if which == 0 {
@@ -223,12 +233,13 @@ fn paired(inputs: &[Vec<u8>; 2], s: u8) -> (u8, Vec<u8>) {
         } else {
             &second.0[range]
         };
-        let (n, p, length) = (done.number, done.place, bytes.len());
-        printed.extend(format!("{name} {} {n} {p} {length}\n", which + 1).bytes());
+        let (done, length) = (expected(done), bytes.len());
+        let (number, place) = (told(done), done.place);
+        printed.extend(format!("{name} {} {number} {place} {length}\n", which + 1).bytes());
         printed.extend(bytes.iter().chain(b"\n"));
-        number = n;
+        answers.push(done);
     }
-    (number, printed)
+    (answers, printed)
 }
 
 /// What trackpair writes to standard output and to standard error.
@@ -257,13 +268,13 @@ fn trackpair_as_the_reference() {
         }
         let s = some_number(&mut rng, &inputs);
         let [one, two] = files.each_ref().map(|file| file.display().to_string());
-        let (number, expected) = paired(&inputs, s);
-        tally.count(number);
+        let (answers, expected) = paired(&inputs, s);
+        answers.into_iter().for_each(|answer| tally.count(answer));
         let (printed, told) = run_trackpair(&[one, two, s.to_string()]);
         assert_eq!(told, "", "seed {seed}, S {s}");
         assert!(printed == expected, "seed {seed}, S {s}");
     }
-    tally.finish(1_600, &[0, 1, 2, 3, 4, 5, 6, 7, 8, 9, 10, 11, 12, 13, 16]);
+    tally.finish(3_200, &[0, 1, 2, 3, 4, 5, 6, 7, 8, 9, 10, 11, 12, 13, 16]);
 }
 
 /// A wrong call prints nothing but what is wrong with it.

@@ -3,9 +3,11 @@
 mod common;
 
 use common::{answer, expected, Tally, Track};
-use reference::generate::{damaged, jumbled, pair, sound, Plan, PlannedSector, Rng};
+use reference::generate::{
+    damaged, jumbled, pair, sound, spoiled, Block, Built, Plan, PlannedSector, Rng, Spoiled,
+};
 use reference::{Address, Part};
-use station::{Lent, Wanted, Which};
+use station::{Answer, Fault, Lent, Wanted, Which};
 
 /// Numbers that Accept can give.
 const ACCEPT: [u8; 13] = [0, 1, 2, 3, 4, 5, 6, 7, 8, 9, 10, 11, 13];
@@ -20,10 +22,11 @@ const WALK: [u8; 3] = [0, 1, 12];
 /// More candidates than any track holds.
 const MANY: usize = 300;
 
-/// One of four tracks is sound, and one of eight is jumbled.
+/// One of four tracks is sound, one of eight is sound but for a block, and one of eight is jumbled.
 fn track_of(seed: u64) -> Track {
     match seed % 8 {
         0 | 4 => sound(seed),
+        6 => spoiled(seed),
         7 => jumbled(seed),
         _ => damaged(seed),
     }
@@ -56,7 +59,7 @@ fn some_number(rng: &mut Rng, (track, marks): Lent) -> u8 {
 /// Demands the same refusal, or the same bytes at the same place of the lent track.
 fn compare_part(
     track: &[u8],
-    ours: Result<&[u8], station::Answer>,
+    ours: Result<&[u8], Answer>,
     theirs: (reference::Answer, std::ops::Range<usize>),
     note: &str,
 ) {
@@ -80,7 +83,7 @@ fn accept_as_the_reference() {
         let theirs = reference::accept(&track, &marks);
         let ours = station::accept(&track, &marks);
         assert_eq!(ours, expected(theirs), "seed {seed}");
-        tally.count(theirs.number);
+        tally.count(ours);
     }
     tally.finish(20_000, &ACCEPT);
 }
@@ -97,7 +100,7 @@ fn find_as_the_reference() {
             let (wanted, part) = wish(&mut rng);
             let theirs = reference::find(track, marks, s, part);
             let ours = station::find(track, marks, s, wanted);
-            tally.count(theirs.0.number);
+            tally.count(expected(theirs.0));
             compare_part(
                 track,
                 ours,
@@ -154,7 +157,7 @@ fn pair_find_as_the_reference() {
             0 => (first.0, &mut about_first),
             _ => (second.0, &mut about_second),
         };
-        tally.count(done.number);
+        tally.count(expected(done));
         assert_eq!(which == Which::Second, named == 1, "{done:?}, {note}");
         compare_part(track, ours, (done, range), &note);
     }
@@ -166,7 +169,7 @@ fn pair_find_as_the_reference() {
 fn compare_step((track, marks): Lent, from: usize, tally: &mut Tally, seed: u64) -> Option<usize> {
     let theirs = reference::walk_from(track, marks, from);
     let ours = station::walk_from(track, marks, from);
-    tally.count(theirs.map_or_else(|refusal| refusal.number, |_| 0));
+    tally.count(theirs.map_or_else(expected, |_| Answer::DONE));
     match (ours, theirs) {
         (Ok(a), Ok(b)) => assert_eq!(
             (a.place, a.flag, a.s, a.kl, a.dl),
@@ -256,7 +259,7 @@ fn plan(length: usize, home: usize, sectors: Vec<PlannedSector>) -> Plan {
 }
 
 /// Both implementations' answer for a plan, which must be one.
-fn judged(plan: &Plan) -> station::Answer {
+fn judged(plan: &Plan) -> Answer {
     let built = plan.build(&mut |length| vec![0x55; length]);
     let ours = station::accept(&built.track, &built.marks);
     let theirs = reference::accept(&built.track, &built.marks);
@@ -295,5 +298,115 @@ fn limits_of_gaps() {
     for (left, expected) in [(12, answer(9, 55)), (13, answer(0, 0))] {
         let sectors = vec![sector(0, 0, 3_906 - 93 - left, 0)];
         assert_eq!(judged(&plan(3_906, 30, sectors)), expected);
+    }
+}
+
+/// A small track: a key of three and data of eight bytes, a key alone, and neither.
+fn small_track() -> (Plan, Built) {
+    let with_key = |key: &[u8], sector| PlannedSector {
+        key: key.to_vec(),
+        ..sector
+    };
+    let sectors = vec![
+        with_key(&[0xC1, 0xC2, 0xC3], sector(0, 5, 8, 21)),
+        with_key(&[0x41, 0x42], sector(0x80, 6, 0, 30)),
+        sector(0, 7, 0, 0),
+    ];
+    let plan = plan(3_815, 23, sectors);
+    let built = plan.build(&mut |length| vec![0x55; length]);
+    (plan, built)
+}
+
+/// The blocks of a built track, each with the S of its sector.
+fn blocks_of(plan: &Plan, built: &Built) -> Vec<(u8, Block)> {
+    let of_sector = |(sector, places): (&PlannedSector, _)| {
+        let blocks = [Block::key(places), Some(Block::data(places))];
+        blocks.map(|block| Some((sector.s, block?)))
+    };
+    let sectors = plan.sectors.iter().zip(&built.places);
+    sectors.flat_map(of_sector).flatten().collect()
+}
+
+/// Both slices of a built track.
+fn lent_of(built: &Built) -> Lent<'_> {
+    (&built.track, &built.marks)
+}
+
+/// Demands that Accept of both gives this answer.
+fn accepted_as((track, marks): Lent, wanted: Answer, note: &str) {
+    assert_eq!(station::accept(track, marks), wanted, "{note}");
+    let theirs = reference::accept(track, marks);
+    assert_eq!(expected(theirs), wanted, "reference, {note}");
+}
+
+/// Demands that Find of both gives this answer for the part that a block holds.
+fn found_as((track, marks): Lent, s: u8, block: &Block, wanted: Answer, note: &str) {
+    let (wish, part) = match block.number {
+        10 => (Wanted::Key, Part::Key),
+        _ => (Wanted::Data, Part::Data),
+    };
+    let theirs = reference::find(track, marks, s, part);
+    assert_eq!(expected(theirs.0), wanted, "reference, {note}");
+    let ours = station::find(track, marks, s, wish);
+    compare_part(track, ours, theirs, note);
+}
+
+/// What can be wrong with a block, in the order of its parts.
+const FAULTS: [Fault; 3] = [Fault::Opening, Fault::Check, Fault::Closing];
+/// The bits that are reversed in a byte.
+const BITS: [u8; 6] = [0x01, 0x08, 0x10, 0x80, 0x55, 0xFF];
+
+/// Each byte of each block changed alone is told as the part that it stands in; an empty block has no closing byte.
+#[test]
+fn every_byte_of_every_block() {
+    let (plan, mut built) = small_track();
+    let mut changes = 0;
+    for (s, block) in blocks_of(&plan, &built) {
+        for (fault, part) in FAULTS.into_iter().zip(block.parts()) {
+            let wanted = Answer {
+                number: block.number,
+                fault: Some(fault),
+                place: block.opening,
+            };
+            for (place, bits) in part.flat_map(|place| BITS.map(|bits| (place, bits))) {
+                built.track[place] ^= bits;
+                let (lent, note) = (lent_of(&built), format!("{bits:02x} at {place}"));
+                accepted_as(lent, wanted, &note);
+                found_as(lent, s, &block, wanted, &note);
+                built.track[place] ^= bits;
+                changes += 1;
+            }
+        }
+    }
+    // Keys of 12 and 11 bytes with all that belongs to them, data blocks of 17, 7 and 7.
+    assert_eq!(changes, BITS.len() * (12 + 11 + 17 + 7 + 7));
+    accepted_as(lent_of(&built), Answer::DONE, "as built");
+}
+
+/// Every set of wrong parts of a sector's blocks: Accept tells the first of all, and Find the first of the block that it is asked for.
+#[test]
+fn every_set_of_faults() {
+    let (plan, built) = small_track();
+    for (sector, places) in plan.sectors.iter().zip(&built.places) {
+        for (sets, round) in (0..64).flat_map(|sets| (0..8).map(move |round| (sets, round))) {
+            let mut damaged = built.clone();
+            let mut rng = Rng::new(sets << 8 | round);
+            let blocks = [Block::key(places), Some(Block::data(places))];
+            let spoil = |(block, set): (Option<Block>, u64)| {
+                let changed = [1, 2, 4].map(|part| set & part != 0);
+                let spoiled = block.map(|block| Spoiled { block, changed })?;
+                spoiled.put(&mut rng, &mut damaged.track);
+                Some((spoiled.block, expected(spoiled.answer())))
+            };
+            let each = blocks.into_iter().zip([sets & 7, sets >> 3]);
+            let told: Vec<(Block, Answer)> = each.filter_map(spoil).collect();
+            let note = format!("S {}, sets {sets:06b}, round {round}", sector.s);
+            let mut answers = told.iter().map(|(_, answer)| *answer);
+            let first = answers.find(|answer| !answer.is_done());
+            accepted_as(lent_of(&damaged), first.unwrap_or(Answer::DONE), &note);
+            for (block, wanted) in &told {
+                found_as(lent_of(&damaged), sector.s, block, *wanted, &note);
+            }
+        }
     }
 }

@@ -7,7 +7,8 @@ use common::{
     Tally, Track,
 };
 use reference::generate::{
-    damaged, sound, wanted_add, wanted_blank, wanted_correct, WantedAdd, WantedBlank, WantedCorrect,
+    damaged, sound, spoiled, wanted_add, wanted_blank, wanted_correct, WantedAdd, WantedBlank,
+    WantedCorrect,
 };
 use station::{Answer, Candidate, Lent, Wanted};
 
@@ -119,7 +120,7 @@ fn blank_as_the_reference() {
         let w = wanted_blank(seed);
         let before = noise(seed, w.length, w.marks_length);
         let (done, written) = blank_by_both(before.clone(), &w, &note);
-        tally.count(done.number);
+        tally.count(done);
         match done.is_done() {
             true => reads_back(lent(&written), w.s, &w.key, &w.data, &note),
             false => same_buffers(&written, &before, &note),
@@ -137,7 +138,7 @@ fn add_as_the_reference() {
         let w = wanted_add(seed, &old.0, &old.1);
         let before = buffers(seed, old.0.len());
         let (done, written) = add_by_both(lent(&old), before.clone(), &w, &note);
-        tally.count(done.number);
+        tally.count(done);
         if !done.is_done() {
             same_buffers(&written, &before, &note);
             continue;
@@ -161,7 +162,7 @@ fn correct_as_the_reference() {
         let w = wanted_correct(seed, &old.0, &old.1);
         let before = buffers(seed, old.0.len());
         let (done, written) = correct_by_both(lent(&old), before.clone(), &w, &note);
-        tally.count(done.number);
+        tally.count(done);
         if !done.is_done() {
             same_buffers(&written, &before, &note);
             continue;
@@ -173,6 +174,30 @@ fn correct_as_the_reference() {
         }
     }
     tally.finish(20_000, &CORRECT);
+}
+
+/// A track with a wrong block is refused by Add and Correct as by Accept, with the fault, and nothing is written.
+#[test]
+fn faults_are_handed_on() {
+    let mut tally = Tally::new("add and correct with a wrong block", 600);
+    for seed in tally.seeds() {
+        let note = format!("seed {seed}");
+        let old = spoiled(seed);
+        let refused = station::accept(&old.0, &old.1);
+        let before = noise(seed, old.0.len(), old.1.len());
+        let (w, body) = (
+            wanted_add(seed, &old.0, &old.1),
+            wanted_correct(seed, &old.0, &old.1),
+        );
+        let added = add_by_both(lent(&old), before.clone(), &w, &note);
+        let corrected = correct_by_both(lent(&old), before.clone(), &body, &note);
+        for (done, written) in [added, corrected] {
+            assert_eq!(done, refused, "{note}");
+            same_buffers(&written, &before, &note);
+            tally.count(done);
+        }
+    }
+    tally.finish(1_200, &[10, 11]);
 }
 
 /// The same sectors with one key and data replaced.
@@ -237,7 +262,7 @@ fn corrections_in_both_orders() {
         let (done_ba, both_ba) = corrected(2, &with_b, &a, &note);
         assert_eq!(done_ab, done_ba, "{note}");
         same_buffers(&both_ab, &both_ba, &note);
-        tally.count(done_ab.number);
+        tally.count(done_ab);
         if fit_together(lent(&old), &a, &b) {
             assert_eq!(done_ab, Answer::DONE, "{note}");
             reads_back(lent(&both_ab), a.s, &a.key, &a.data, &note);

@@ -1,5 +1,6 @@
 //! Faults put on sound tracks.
 
+use super::block::spoil_block;
 use super::plan::{Built, Plan};
 use super::rng::Rng;
 use super::sound::{sound_plan, Sound};
@@ -32,7 +33,7 @@ pub fn damage(rng: &mut Rng, sound: Sound) -> (Vec<u8>, Vec<u8>) {
 
 /// One fault that keeps lengths and mark values in rule.
 fn put_fault(rng: &mut Rng, plan: &Plan, built: &mut Built) {
-    match rng.below(16) {
+    match rng.below(19) {
         0 => flip_bit(rng, built),
         1 | 2 => change_structure(rng, plan, built),
         3 => change_block(rng, built),
@@ -45,7 +46,8 @@ fn put_fault(rng: &mut Rng, plan: &Plan, built: &mut Built) {
         11 => slip(rng, built),
         12 => alter_home(rng, plan, built),
         13 => alter_length(rng, built),
-        _ => alter_count(rng, built),
+        14 | 15 => alter_count(rng, built),
+        _ => drop(spoil_block(rng, built)),
     }
 }
 

@@ -1,8 +1,9 @@
-//! Tracks for tests, drawn from a seed: sound ones, damaged ones, jumbled ones, pairs, wanted fields, and bit cells.
+//! Tracks for tests, drawn from a seed: sound ones, damaged ones, ones with a spoiled block, jumbled ones, pairs, wanted fields, and bit cells.
 //!
 //! Sound tracks are laid out here by hand and never by the writing calls.
 
 mod bit_cells;
+mod block;
 mod damage;
 mod jumble;
 mod pairs;
@@ -14,6 +15,7 @@ mod wanted;
 pub use bit_cells::{
     bit_cells_of, wanted_from_cells, wanted_to_cells, WantedFromCells, WantedToCells,
 };
+pub use block::{spoil_block, spoiled, Block, Spoiled};
 pub use damage::{damage, damaged, recheck};
 pub use jumble::jumbled;
 pub use pairs::{pair, Pair, Track};

@@ -280,36 +280,159 @@ fn set_lengths(built: &mut Built, information: usize, kl: u8, dl: u16) {
     recheck(&mut built.track, information, 9);
 }
 
+/// The key, and the two data blocks that are not empty: the number that refuses each, its opening and its length.
+const BLOCKS: [(u8, usize, usize); 3] = [(10, KEY_1, 3), (11, DATA_0, 8), (11, DATA_1, 80)];
+
 #[test]
 fn answer_10() {
-    for place in (KEY_1..KEY_1 + 12).chain([KEY_1 + 5]) {
-        assert_eq!(after(|b| b.track[place] ^= 4), answer(10, KEY_1));
+    let faults = [1, 1, 1, 1, 1, 1, 2, 2, 2, 2, 2, 3];
+    for (place, fault) in (KEY_1..).zip(faults) {
+        let changed = after(|b| b.track[place] ^= 4);
+        assert_eq!(changed, faulty(10, fault, KEY_1));
     }
     // A key length that is wrong by one misses its end.
-    assert_eq!(
-        after(|b| set_lengths(b, COUNT_1 + 8, 2, 80)),
-        answer(10, KEY_1)
-    );
+    for kl in [2, 4] {
+        assert_eq!(
+            after(|b| set_lengths(b, COUNT_1 + 8, kl, 80)),
+            faulty(10, 2, KEY_1)
+        );
+    }
 }
 
 #[test]
 fn answer_11() {
-    for place in [DATA_0, DATA_0 + 5, DATA_0 + 6, DATA_0 + 13, 98, 99, 100] {
-        assert_eq!(after(|b| b.track[place] ^= 4), answer(11, DATA_0));
+    let faults = [(0, 1), (5, 1), (6, 2), (13, 2), (14, 2), (15, 2), (16, 3)];
+    for (offset, fault) in faults {
+        let changed = after(|b| b.track[DATA_0 + offset] ^= 4);
+        assert_eq!(changed, faulty(11, fault, DATA_0));
     }
-    for place in [DATA_1, DATA_1 + 5, DATA_1 + 45, DATA_1 + 86, DATA_1 + 88] {
-        assert_eq!(after(|b| b.track[place] ^= 4), answer(11, DATA_1));
+    let faults = [(0, 1), (5, 1), (6, 2), (45, 2), (86, 2), (87, 2), (88, 3)];
+    for (offset, fault) in faults {
+        let changed = after(|b| b.track[DATA_1 + offset] ^= 4);
+        assert_eq!(changed, faulty(11, fault, DATA_1));
     }
-    for place in DATA_2..DATA_2 + 7 {
-        assert_eq!(after(|b| b.track[place] ^= 4), answer(11, DATA_2));
-    }
-    // After the single zero byte of an empty block nothing is looked at.
-    assert_eq!(after(|b| b.track[DATA_2 + 7..].fill(0xE7)), answer(0, 0));
     // Without its key a sector's data is looked for at the key's place, which opens but fails.
     assert_eq!(
         after(|b| set_lengths(b, COUNT_1 + 8, 0, 80)),
-        answer(11, KEY_1)
+        faulty(11, 2, KEY_1)
     );
+}
+
+/// The block of DL = 0: its opening is 1, its zero byte 2, and nothing is 3.
+#[test]
+fn answer_11_of_an_empty_block() {
+    for offset in 0..6 {
+        for bit in 0..8 {
+            let changed = after(|b| b.track[DATA_2 + offset] ^= 1 << bit);
+            assert_eq!(changed, faulty(11, 1, DATA_2));
+        }
+    }
+    for byte in 1..=255 {
+        let changed = after(|b| b.track[DATA_2 + 6] = byte);
+        assert_eq!(changed, faulty(11, 2, DATA_2));
+        let both = after(|b| {
+            b.track[DATA_2 + 6] = byte;
+            b.track[DATA_2] = byte;
+        });
+        assert_eq!(both, faulty(11, 1, DATA_2));
+    }
+    // After the single zero byte nothing is looked at, also where check and end byte would stand.
+    assert_eq!(after(|b| b.track[DATA_2 + 7..].fill(0xE7)), answer(0, 0));
+    for offset in 7..10 {
+        assert_eq!(after(|b| b.track[DATA_2 + offset] = 0xCC), answer(0, 0));
+    }
+}
+
+#[test]
+fn every_bit_of_an_opening() {
+    for (number, opening, _) in BLOCKS {
+        for (offset, bit) in (0..6).flat_map(|offset| (0..8).map(move |bit| (offset, bit))) {
+            let changed = after(|b| b.track[opening + offset] ^= 1 << bit);
+            assert_eq!(changed, faulty(number, 1, opening), "{offset} {bit}");
+        }
+    }
+}
+
+#[test]
+fn every_bit_of_information_and_check() {
+    for (number, opening, length) in BLOCKS {
+        for bit in 0..8 * (length + 2) {
+            let place = opening + 6 + bit / 8;
+            let changed = after(|b| b.track[place] ^= 1 << (bit % 8));
+            assert_eq!(changed, faulty(number, 2, opening), "{bit}");
+        }
+        // The check's two bytes are not one another.
+        let swapped = after(|b| {
+            let end = opening + 6 + length;
+            assert_ne!(b.track[end], b.track[end + 1]);
+            b.track.swap(end, end + 1);
+        });
+        assert_eq!(swapped, faulty(number, 2, opening));
+    }
+}
+
+#[test]
+fn every_other_end_byte() {
+    for (number, opening, length) in BLOCKS {
+        for byte in (0..=255).filter(|&byte| byte != 0xCC) {
+            let changed = after(|b| b.track[opening + 6 + length + 2] = byte);
+            assert_eq!(changed, faulty(number, 3, opening), "{byte}");
+        }
+        // Information that goes with its check is no fault, and leaves the end byte the first one.
+        let renewed = |end_byte: u8| {
+            after(|b| {
+                b.track[opening + 6] ^= 0x3C;
+                recheck(&mut b.track, opening + 6, length);
+                b.track[opening + 6 + length + 2] = end_byte;
+            })
+        };
+        assert_eq!(renewed(0xCC), answer(0, 0));
+        assert_eq!(renewed(0xCD), faulty(number, 3, opening));
+    }
+}
+
+#[test]
+fn the_first_of_several_faults_in_a_block() {
+    for (number, opening, length) in BLOCKS {
+        for (set, first) in SETS {
+            let changed = after(|b| spoil(b, opening, length, set));
+            assert_eq!(changed, faulty(number, first, opening), "{set:?}");
+        }
+    }
+}
+
+/// With both blocks of a sector wrong the key is named, with its own fault.
+#[test]
+fn the_key_comes_before_the_data() {
+    for (key_set, first) in SETS {
+        for (data_set, _) in SETS {
+            let changed = after(|b| {
+                spoil(b, KEY_1, 3, key_set);
+                spoil(b, DATA_1, 80, data_set);
+            });
+            assert_eq!(changed, faulty(10, first, KEY_1));
+        }
+    }
+}
+
+/// Every new fault of a block comes before those already there.
+#[test]
+fn order_of_the_faults() {
+    let mut b = build(&plan());
+    b.track[DATA_2 + 6] = 1;
+    assert_eq!(accepted(&b), faulty(11, 2, DATA_2));
+    b.track[DATA_2] = 1;
+    assert_eq!(accepted(&b), faulty(11, 1, DATA_2));
+    for (number, opening, length) in [(11, DATA_1, 80), (10, KEY_1, 3), (11, DATA_0, 8)] {
+        b.track[opening + 6 + length + 2] = 0;
+        assert_eq!(accepted(&b), faulty(number, 3, opening));
+        b.track[opening + 6 + length] ^= 1;
+        assert_eq!(accepted(&b), faulty(number, 2, opening));
+        b.track[opening + 5] = 0;
+        assert_eq!(accepted(&b), faulty(number, 1, opening));
+    }
+    b.track[COUNT_0 + 17] = 0;
+    assert_eq!(accepted(&b), answer(7, COUNT_0));
 }
 
 #[test]
@@ -341,11 +464,11 @@ fn order_of_the_answers() {
     let mut b = build(&plan);
     assert_eq!(accepted(&b), answer(13, COUNT_2));
     b.track[DATA_2 + 6] = 1;
-    assert_eq!(accepted(&b), answer(11, DATA_2));
+    assert_eq!(accepted(&b), faulty(11, 2, DATA_2));
     b.track[DATA_1 + 6] ^= 1;
-    assert_eq!(accepted(&b), answer(11, DATA_1));
+    assert_eq!(accepted(&b), faulty(11, 2, DATA_1));
     b.track[KEY_1 + 6] ^= 1;
-    assert_eq!(accepted(&b), answer(10, KEY_1));
+    assert_eq!(accepted(&b), faulty(10, 2, KEY_1));
     set_lengths(&mut b, COUNT_1 + 8, 3, 200);
     assert_eq!(accepted(&b), answer(9, COUNT_1));
     b.track[COUNT_1 + 8] = 0;
@@ -356,7 +479,7 @@ fn order_of_the_answers() {
     plant(&mut b, COUNT_1 + 19);
     assert_eq!(accepted(&b), answer(9, COUNT_1));
     b.track[DATA_0 + 6] ^= 1;
-    assert_eq!(accepted(&b), answer(11, DATA_0));
+    assert_eq!(accepted(&b), faulty(11, 2, DATA_0));
     b.track[72] = 0;
     assert_eq!(accepted(&b), answer(7, COUNT_0));
     b.track[COUNT_0] = 1;

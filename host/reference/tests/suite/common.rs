@@ -12,9 +12,22 @@ pub const THERE: Address = Address {
     head: 3,
 };
 
-/// An answer in short.
+/// An answer in short, with second number 0.
 pub fn answer(number: u8, place: usize) -> Answer {
-    Answer { number, place }
+    Answer {
+        number,
+        fault: 0,
+        place,
+    }
+}
+
+/// An answer about a block in short: 10 or 11, its second number, and the block's opening.
+pub fn faulty(number: u8, fault: u8, place: usize) -> Answer {
+    Answer {
+        number,
+        fault,
+        place,
+    }
 }
 
 /// Accept on a built track.
@@ -82,4 +95,23 @@ pub fn plant_count(built: &mut Built, place: usize, information: [u8; 9]) {
     built.track[place + 8..place + 17].copy_from_slice(&information);
     reference::generate::recheck(&mut built.track, place + 8, 9);
     built.track[place + 19] = 0xCC;
+}
+
+/// The sets of one or more of a block's three parts, each with the first of them: opening, check, end byte.
+pub const SETS: [([bool; 3], u8); 7] = [
+    ([true, false, false], 1),
+    ([false, true, false], 2),
+    ([false, false, true], 3),
+    ([true, true, false], 1),
+    ([true, false, true], 1),
+    ([false, true, true], 2),
+    ([true, true, true], 1),
+];
+
+/// One byte changed in each part that the set has: in the opening, in the information, and the end byte.
+pub fn spoil(built: &mut Built, opening: usize, length: usize, set: [bool; 3]) {
+    let places = [opening + 4, opening + 6, opening + 6 + length + 2];
+    for (place, changed) in places.into_iter().zip(set) {
+        built.track[place] ^= if changed { 0x11 } else { 0 };
+    }
 }

@@ -20,6 +20,10 @@ fn refused(number: u8, place: usize) -> (Answer, Range<usize>) {
     (answer(number, place), 0..0)
 }
 
+fn refused_block(number: u8, fault: u8, place: usize) -> (Answer, Range<usize>) {
+    (faulty(number, fault, place), 0..0)
+}
+
 #[test]
 fn finds_keys_and_data() {
     let plan = plan();
@@ -163,22 +167,80 @@ fn answer_9_at_index() {
 
 #[test]
 fn answers_10_and_11_by_part() {
-    for place in 172..184 {
+    let faults = [1, 1, 1, 1, 1, 1, 2, 2, 2, 2, 2, 3];
+    for (place, fault) in (172..).zip(faults) {
         let key = after(6, Part::Key, |b| b.track[place] ^= 1);
-        assert_eq!(key, refused(10, 172));
+        assert_eq!(key, refused_block(10, fault, 172));
         let data = after(6, Part::Data, |b| b.track[place] ^= 1);
         assert_eq!(data, (answer(0, 0), 201..281));
     }
-    for place in [195, 200, 201, 280, 281, 282, 283] {
+    let faults = [1, 1, 2, 2, 2, 2, 3];
+    for (place, fault) in [195, 200, 201, 280, 281, 282, 283].into_iter().zip(faults) {
         let data = after(6, Part::Data, |b| b.track[place] ^= 1);
-        assert_eq!(data, refused(11, 195));
+        assert_eq!(data, refused_block(11, fault, 195));
         let key = after(6, Part::Key, |b| b.track[place] ^= 1);
         assert_eq!(key, (answer(0, 0), 178..181));
     }
-    // The zero byte of an empty data block is judged for data only.
-    let empty = after(7, Part::Data, |b| b.track[361] = 0x80);
-    assert_eq!(empty, refused(11, 355));
-    assert_eq!(after(7, Part::Key, |b| b.track[361] = 0x80).0, answer(0, 0));
+}
+
+/// Opening and zero byte of an empty data block are judged for data only, and nothing behind them.
+#[test]
+fn answer_11_of_an_empty_block() {
+    for place in 355..362 {
+        let fault = if place < 361 { 1 } else { 2 };
+        for bit in 0..8 {
+            let data = after(7, Part::Data, |b| b.track[place] ^= 1 << bit);
+            assert_eq!(data, refused_block(11, fault, 355));
+            let (key, _) = after(7, Part::Key, |b| b.track[place] ^= 1 << bit);
+            assert_eq!(key, answer(0, 0));
+        }
+    }
+    let both = after(7, Part::Data, |b| b.track[355..362].fill(0xCC));
+    assert_eq!(both, refused_block(11, 1, 355));
+    let (behind, _) = after(7, Part::Data, |b| b.track[362..372].fill(0xE7));
+    assert_eq!(behind, answer(0, 0));
+}
+
+/// Every bit of openings, check bytes and end bytes.
+#[test]
+fn every_bit_around_the_information() {
+    let blocks = [
+        (6, Part::Key, 10, 172, 3),
+        (6, Part::Data, 11, 195, 80),
+        (5, Part::Data, 11, 84, 8),
+    ];
+    for (s, part, number, opening, length) in blocks {
+        let end = opening + 6 + length;
+        let places = (opening..opening + 6).chain(end..end + 3);
+        let faults = [1, 1, 1, 1, 1, 1, 2, 2, 3];
+        for (place, fault) in places.zip(faults) {
+            for bit in 0..8 {
+                let changed = after(s, part, |b| b.track[place] ^= 1 << bit);
+                assert_eq!(changed, refused_block(number, fault, opening));
+            }
+        }
+        for (set, first) in SETS {
+            let changed = after(s, part, |b| spoil(b, opening, length, set));
+            assert_eq!(changed, refused_block(number, first, opening));
+        }
+    }
+}
+
+/// With both blocks wrong each part is refused for its own first fault.
+#[test]
+fn each_part_has_its_own_fault() {
+    for (key_set, key_first) in SETS {
+        for (data_set, data_first) in SETS {
+            let change = |b: &mut Built| {
+                spoil(b, 172, 3, key_set);
+                spoil(b, 195, 80, data_set);
+            };
+            let key = after(6, Part::Key, change);
+            assert_eq!(key, refused_block(10, key_first, 172));
+            let data = after(6, Part::Data, change);
+            assert_eq!(data, refused_block(11, data_first, 195));
+        }
+    }
 }
 
 #[test]
@@ -190,6 +252,10 @@ fn finds_a_sector_left_of_home() {
     built.track[42..47].copy_from_slice(&[0x41, 0x42, 0xBE, 0xBD, 0xCC]);
     assert_eq!(find_in(&built, 77, Part::Data), (answer(0, 0), 42..44));
     assert_eq!(accepted(&built), answer(3, 30));
-    built.track[46] = 0;
-    assert_eq!(find_in(&built, 77, Part::Data), refused(11, 36));
+    for (place, fault) in [(46, 3), (45, 2), (42, 2), (41, 1)] {
+        let mut spoiled = built.clone();
+        spoiled.track[place] ^= 1;
+        let found = find_in(&spoiled, 77, Part::Data);
+        assert_eq!(found, refused_block(11, fault, 36));
+    }
 }

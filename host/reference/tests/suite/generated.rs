@@ -1,6 +1,7 @@
 //! Generated tracks: sound, damaged, and with wanted fields.
 
 use crate::common::*;
+use reference::check::check_by_division;
 use reference::generate::*;
 use reference::*;
 use std::collections::BTreeSet;
@@ -101,6 +102,86 @@ fn damaged_tracks_give_every_answer() {
     assert_eq!((seen[12], seen[14], seen[15], seen[16]), (0, 0, 0, 0));
 }
 
+/// How often each second number was met with answers 10 and 11, and with 11 of an empty block.
+#[derive(Default, Debug)]
+struct Faults {
+    key: [usize; 4],
+    data: [usize; 4],
+    empty: [usize; 4],
+}
+
+impl Faults {
+    /// One more answer, about a block of this length; with any other number the second one is 0.
+    fn count(&mut self, done: Answer, length: usize) {
+        let fault = usize::from(done.fault);
+        assert_eq!((1..=3).contains(&fault), matches!(done.number, 10 | 11));
+        match (done.number, length) {
+            (10, _) => self.key[fault] += 1,
+            (11, 0) => self.empty[fault] += 1,
+            (11, _) => self.data[fault] += 1,
+            _ => assert_eq!(fault, 0, "{done:?}"),
+        }
+    }
+
+    /// Demands that each was met so often, and that an empty block has no third.
+    fn finish(&self, least: usize) {
+        println!("{self:?}");
+        let all = self.key[1..].iter().chain(&self.data[1..]);
+        let mut all = all.chain(&self.empty[1..3]);
+        assert!(all.all(|&times| times >= least), "{self:?}");
+        assert_eq!(self.empty[3], 0, "{self:?}");
+    }
+}
+
+/// DL of the candidate nearest to the left of a place.
+fn data_length_at(track: &[u8], marks: &[u8], place: usize) -> usize {
+    let candidates = walked(track, marks);
+    let left = candidates.iter().rfind(|next| next.place < place);
+    left.map_or(0, |next| usize::from(next.dl))
+}
+
+#[test]
+fn damaged_tracks_give_every_fault() {
+    let mut seen = Faults::default();
+    for seed in 0..6_000 {
+        let (track, marks) = damaged(seed);
+        let done = accept(&track, &marks);
+        let length = match done.number {
+            11 => data_length_at(&track, &marks, done.place),
+            _ => 0,
+        };
+        seen.count(done, length);
+    }
+    seen.finish(15);
+}
+
+/// Accept refuses the key first, and Find each block for its own first fault.
+#[test]
+fn spoiled_blocks_give_their_first_fault() {
+    let (mut seen, mut sets) = (Faults::default(), BTreeSet::new());
+    let mut both = 0;
+    for seed in 0..3_000 {
+        let Sound { plan, mut built } = sound_plan(seed);
+        let spoiled = spoil_block(&mut Rng::new(seed), &mut built);
+        assert_eq!(accepted(&built), spoiled[0].answer(), "seed {seed}");
+        both += usize::from(spoiled.len() == 2);
+        for one in spoiled {
+            let part = [Part::Key, Part::Data][usize::from(one.block.number) - 10];
+            let holds = |places: &Places| places.end > one.block.opening;
+            let index = built.places.iter().position(holds).unwrap();
+            let s = plan.sectors[index].s;
+            let (done, range) = find(&built.track, &built.marks, s, part);
+            assert_eq!((done, range), (one.answer(), 0..0), "seed {seed}");
+            seen.count(done, one.block.length);
+            sets.insert((done.number, one.block.length == 0, one.changed));
+        }
+    }
+    seen.finish(50);
+    // Seven sets of parts of a key, seven of a data block, and three of an empty one.
+    assert_eq!(sets.len(), 17, "{sets:?}");
+    assert!(both > 200, "{both}");
+}
+
 /// Jumbled tracks give many candidates and several answers.
 #[test]
 fn jumbled_tracks_are_varied() {
@@ -122,7 +203,7 @@ fn jumbled_tracks_are_varied() {
 /// List, Add and Correct pass on what Accept answers, and Pair find does for the second track.
 #[test]
 fn damaged_tracks_are_refused_alike() {
-    let mut seen = [0; 17];
+    let (mut seen, mut faults) = ([0; 17], BTreeSet::new());
     let (first, first_marks) = defective();
     for seed in 20_000..22_000 {
         let (track, marks) = damaged(seed);
@@ -131,6 +212,7 @@ fn damaged_tracks_are_refused_alike() {
             continue;
         }
         seen[usize::from(expected.number)] += 1;
+        faults.insert((expected.number, expected.fault));
         let mut records = [Sector::default(); 67];
         assert_eq!(list(&track, &marks, &mut records), (expected, 0));
         assert_eq!(records, [Sector::default(); 67]);
@@ -144,6 +226,9 @@ fn damaged_tracks_are_refused_alike() {
     }
     for number in (1..=11).chain([13]) {
         assert!(seen[number] > 0, "{number} of {seen:?}");
+    }
+    for fault in 1..=3 {
+        assert!(faults.contains(&(10, fault)) && faults.contains(&(11, fault)));
     }
 }
 
@@ -206,7 +291,30 @@ fn check_found(
         11 => assert!(part == Part::Data && done.place > only.place),
         _ => panic!("{done:?} for {only:?}"),
     }
+    let fault = match done.number {
+        10 => fault_by_division(track, done.place, usize::from(only.kl)),
+        11 => fault_by_division(track, done.place, usize::from(only.dl)),
+        _ => 0,
+    };
+    assert_eq!(done.fault, fault, "{done:?} for {only:?}");
     assert!(done.number == 0 || range == (0..0));
+}
+
+/// The first fault of a block, its check by long division.
+fn fault_by_division(track: &[u8], opening: usize, length: usize) -> u8 {
+    let (start, end) = (opening + 6, opening + 6 + length);
+    if track[opening..start] != SHORT {
+        return 1;
+    }
+    let checks = match length {
+        0 => track[start] == 0,
+        _ => track[end..end + 2] == check_by_division(&track[start..end]),
+    };
+    match checks {
+        false => 2,
+        true if length > 0 && track[end + 2] != 0xCC => 3,
+        true => 0,
+    }
 }
 
 /// A step-by-step walk equals starting anew behind each candidate.

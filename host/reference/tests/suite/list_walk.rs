@@ -76,12 +76,49 @@ fn list_refusals_change_no_record() {
     );
     let mut out = [NOISE; 67];
     let wrong = list(&built.track, &built.marks, &mut out);
-    assert_eq!(wrong, (answer(11, 355), 0));
+    assert_eq!(wrong, (faulty(11, 2, 355), 0));
     assert_eq!(
         list(&built.track, &built.marks[1..], &mut out),
         (answer(1, 0), 0)
     );
     assert_eq!(out, [NOISE; 67]);
+}
+
+/// What is wrong with a block is told by List as by Accept, and no record is written.
+#[test]
+fn list_tells_what_is_wrong_with_a_block() {
+    let blocks = [(10, 172, 3), (11, 195, 80), (11, 84, 8)];
+    for (number, opening, length) in blocks {
+        for (set, first) in SETS {
+            let mut built = build(&plan());
+            spoil(&mut built, opening, length, set);
+            let mut out = [NOISE; 67];
+            let refused = list(&built.track, &built.marks, &mut out);
+            assert_eq!(refused, (faulty(number, first, opening), 0));
+            assert_eq!(out, [NOISE; 67]);
+        }
+    }
+    for (place, fault) in [(355, 1), (360, 1), (361, 2)] {
+        let mut built = build(&plan());
+        built.track[place] ^= 1;
+        let refused = list(&built.track, &built.marks, &mut [NOISE; 67]);
+        assert_eq!(refused, (faulty(11, fault, 355), 0));
+    }
+}
+
+/// Walk judges no block, so that no step has a second number.
+#[test]
+fn walk_has_no_second_number() {
+    for (set, _) in SETS {
+        let mut built = build(&plan());
+        spoil(&mut built, 172, 3, set);
+        spoil(&mut built, 195, 80, set);
+        assert_eq!(walked(&built.track, &built.marks).len(), 3);
+        assert_eq!(
+            walk_from(&built.track, &built.marks, 325),
+            Err(answer(12, 0))
+        );
+    }
 }
 
 #[test]

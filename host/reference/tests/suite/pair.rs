@@ -45,6 +45,10 @@ fn refused(number: u8, place: usize, which: u8) -> (Answer, u8, Range<usize>) {
     (answer(number, place), which, 0..0)
 }
 
+fn refused_block(number: u8, fault: u8, place: usize, which: u8) -> (Answer, u8, Range<usize>) {
+    (faulty(number, fault, place), which, 0..0)
+}
+
 #[test]
 fn the_alternative_holds_the_record() {
     let (first, second) = plans();
@@ -74,7 +78,7 @@ fn flags_00_and_01_read_the_first_only() {
         wrong.track[201] ^= 1;
         wrong.marks[3_000] = 1;
         let data = pair_find((&wrong.track, &wrong.marks), spoiled, 6, Part::Data);
-        assert_eq!(data, refused(11, 195, 0));
+        assert_eq!(data, refused_block(11, 2, 195, 0));
         let key = pair_find((&wrong.track, &wrong.marks), spoiled, 6, Part::Key);
         assert_eq!(key, (answer(0, 0), 0, 178..181));
     }
@@ -127,7 +131,10 @@ fn answers_about_the_second() {
     assert_eq!(after(keep, |b| b.marks[0] = 2), refused(1, 0, 1));
     assert_eq!(after(keep, |b| b.track[23] = 1), refused(2, 23, 1));
     assert_eq!(after(keep, |b| b.marks[2_000] = 1), refused(5, 2_000, 1));
-    assert_eq!(after(keep, |b| b.track[83] ^= 1), refused(11, 77, 1));
+    assert_eq!(
+        after(keep, |b| b.track[83] ^= 1),
+        refused_block(11, 2, 77, 1)
+    );
     // The second's own answer comes before the disagreement.
     let both = planned(|_, second| {
         second.flag = 0;
@@ -136,6 +143,45 @@ fn answers_about_the_second() {
     assert_eq!(both, refused(8, 48, 1));
     let repeated = planned(|_, second| second.sectors[2].s = 5);
     assert_eq!((repeated.0.number, repeated.1), (13, 1));
+}
+
+/// Find's second number on the first track, of the part that is asked for.
+#[test]
+fn faults_of_the_first() {
+    for (set, first_fault) in SETS {
+        for flag in [0, 1] {
+            let named = if flag == 0 { HERE } else { THERE };
+            let mut first = build(&flagged(flag, named));
+            spoil(&mut first, 172, 3, set);
+            let second = build(&plans().1);
+            let key = pair_in(&first, &second, 6, Part::Key);
+            assert_eq!(key, refused_block(10, first_fault, 172, 0));
+            let data = pair_in(&first, &second, 6, Part::Data);
+            assert_eq!(data, (answer(0, 0), 0, 201..281));
+            spoil(&mut first, 195, 80, [false, false, true]);
+            let data = pair_in(&first, &second, 6, Part::Data);
+            assert_eq!(data, refused_block(11, 3, 195, 0));
+        }
+    }
+}
+
+/// The second's own answer has its second number, whichever part is asked for; the blocks of a defective first are not judged.
+#[test]
+fn faults_of_the_second() {
+    // The second's home stands at 23: sector 5's data block at 77, sector 6's key at 165 and data block at 188.
+    let blocks = [(11, 77, 8), (10, 165, 3), (11, 188, 33)];
+    for (number, opening, length) in blocks {
+        for (set, fault) in SETS {
+            let (first, second) = plans();
+            let (mut first, mut second) = (build(&first), build(&second));
+            spoil(&mut first, 172, 3, [true, false, false]);
+            spoil(&mut second, opening, length, set);
+            for part in [Part::Key, Part::Data] {
+                let found = pair_in(&first, &second, 6, part);
+                assert_eq!(found, refused_block(number, fault, opening, 1));
+            }
+        }
+    }
 }
 
 #[test]

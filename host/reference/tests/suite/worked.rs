@@ -171,6 +171,19 @@ fn tracklist_of_two_sectors() {
     assert_eq!(tracklist(&spoiled), b"refused 1\n");
 }
 
+/// Whatever is wrong with a block, the line has the one number.
+#[test]
+fn tracklist_prints_no_second_number() {
+    for (set, _) in SETS {
+        for (number, opening, length) in [(10, 172, 3), (11, 195, 80)] {
+            let mut built = build(&plan());
+            spoil(&mut built, opening, length, set);
+            let output = tracklist(&[built.track, built.marks].concat());
+            assert_eq!(output, format!("refused {number}\n").as_bytes());
+        }
+    }
+}
+
 #[test]
 fn tracklist_prints_home_flag_and_alternative() {
     let built = build(&flagged(1, THERE));

@@ -239,7 +239,7 @@ fn add_refusals() {
     // The old track's answer comes before 14.
     let mut spoiled = built.clone();
     spoiled.track[361] = 1;
-    assert_eq!(add_to(&spoiled, 2, 5, &[], &[]).0, answer(11, 355));
+    assert_eq!(add_to(&spoiled, 2, 5, &[], &[]).0, faulty(11, 2, 355));
     spoiled.marks[0] = 2;
     assert_eq!(add_to(&spoiled, 2, 5, &[], &[]).0, answer(1, 0));
 }
@@ -341,9 +341,36 @@ fn correct_refusals() {
     assert_eq!(correct_in(&built, 7, &[], more).0, answer(15, 0));
     let mut spoiled = built.clone();
     spoiled.track[178] ^= 1;
-    assert_eq!(correct_in(&spoiled, 99, &[0; 256], &[]).0, answer(10, 172));
+    assert_eq!(
+        correct_in(&spoiled, 99, &[0; 256], &[]).0,
+        faulty(10, 2, 172)
+    );
     spoiled.marks[0] = 2;
     assert_eq!(correct_in(&spoiled, 99, &[0; 256], &[]).0, answer(1, 0));
+}
+
+/// Add and Correct hand on what is wrong with a block of the old track, also of the sector to be corrected.
+#[test]
+fn faults_of_the_old_track() {
+    let both_refuse = |built: &Built, expected: Answer| {
+        assert_eq!(add_to(built, 0, 8, &[1], &[2]).0, expected);
+        for s in [5, 6, 7, 99] {
+            assert_eq!(correct_in(built, s, &[1], &[2]).0, expected);
+        }
+    };
+    let blocks = [(10, 172, 3), (11, 195, 80), (11, 84, 8)];
+    for (number, opening, length) in blocks {
+        for (set, first) in SETS {
+            let mut built = build(&plan());
+            spoil(&mut built, opening, length, set);
+            both_refuse(&built, faulty(number, first, opening));
+        }
+    }
+    for (place, fault) in [(355, 1), (361, 2)] {
+        let mut built = build(&plan());
+        built.track[place] ^= 1;
+        both_refuse(&built, faulty(11, fault, 355));
+    }
 }
 
 #[test]

@@ -2,21 +2,19 @@
 #![allow(dead_code)]
 
 use reference::generate::{Rng, WantedAdd, WantedBlank, WantedCorrect};
-use station::{Address, Answer, Lent, NewBody, NewSector, NewTrack, Wanted};
+use station::{Address, Answer, Fault, Lent, NewBody, NewSector, NewTrack, Wanted};
+use std::collections::{BTreeMap, BTreeSet};
 use std::io::Write;
 use std::ops::Range;
 
 /// Bytes and marks of one track.
 pub type Track = (Vec<u8>, Vec<u8>);
 
-/// How many answer numbers there are.
-const NUMBERS: usize = 18;
-
-/// The seeds of one comparison, and how often each answer number was met.
+/// The seeds of one comparison, and how often each answer number with its second number was met.
 pub struct Tally {
     name: &'static str,
     seeds: Range<u64>,
-    met: [u64; NUMBERS],
+    met: BTreeMap<(u8, u8), u64>,
 }
 
 impl Tally {
@@ -34,7 +32,7 @@ impl Tally {
         Tally {
             name,
             seeds,
-            met: [0; NUMBERS],
+            met: BTreeMap::new(),
         }
     }
 
@@ -43,14 +41,15 @@ impl Tally {
         self.seeds.clone()
     }
 
-    /// One more call that gave this number.
-    pub fn count(&mut self, number: u8) {
-        self.met[usize::from(number)] += 1;
+    /// One more call that gave this answer.
+    pub fn count(&mut self, answer: Answer) {
+        let second = answer.fault.map_or(0, Fault::number);
+        *self.met.entry((answer.number, second)).or_default() += 1;
     }
 
     /// How many calls were counted.
     fn calls(&self) -> u64 {
-        self.met.iter().sum()
+        self.met.values().sum()
     }
 
     /// The summary line, shown even if the test passes.
@@ -61,22 +60,44 @@ impl Tally {
             self.calls(),
             self.seeds
         );
-        for (number, times) in self.met.iter().enumerate().filter(|(_, &times)| times > 0) {
-            line += &format!(" {number}:{times}");
+        for (&(number, second), times) in &self.met {
+            line += &format!(" {}:{times}", dotted(number, second));
         }
         line
     }
 
-    /// Demands so many calls, and that exactly these numbers were met.
+    /// Demands so many calls, and that exactly these numbers were met, 10 and 11 with each of their second numbers.
     pub fn finish(self, least_calls: u64, numbers: &[u8]) {
         let summary = self.summary();
         writeln!(std::io::stderr(), "{summary}").expect("standard error takes a line");
         assert!(self.calls() >= least_calls, "too few calls: {summary}");
-        for (number, &times) in (0..).zip(&self.met) {
-            let wanted = numbers.contains(&number);
-            assert_eq!(times > 0, wanted, "number {number}: {summary}");
-        }
+        let wanted: BTreeSet<_> = numbers.iter().flat_map(|&n| with_seconds(n)).collect();
+        let met: BTreeSet<_> = self.met.keys().copied().collect();
+        let (missing, odd) = (&wanted - &met, &met - &wanted);
+        assert!(missing.is_empty(), "not met: {missing:?}, {summary}");
+        assert!(odd.is_empty(), "not expected: {odd:?}, {summary}");
     }
+}
+
+/// A number with each second number that goes with it.
+fn with_seconds(number: u8) -> Vec<(u8, u8)> {
+    match number {
+        10 | 11 => vec![(number, 1), (number, 2), (number, 3)],
+        _ => vec![(number, 0)],
+    }
+}
+
+/// A number, and the second number behind a dot where there is one.
+fn dotted(number: u8, second: u8) -> String {
+    match second {
+        0 => number.to_string(),
+        _ => format!("{number}.{second}"),
+    }
+}
+
+/// An answer as the programs print it, without its place.
+pub fn told(answer: Answer) -> String {
+    dotted(answer.number, answer.fault.map_or(0, Fault::number))
 }
 
 /// A number from the environment.
@@ -88,15 +109,27 @@ fn number_from(name: &str) -> Option<u64> {
 
 /// The reference's answer in the wrapper's type.
 pub fn expected(answer: reference::Answer) -> Answer {
+    let fault = match answer.fault {
+        0 => None,
+        1 => Some(Fault::Opening),
+        2 => Some(Fault::Check),
+        3 => Some(Fault::Closing),
+        other => panic!("no second number: {other}"),
+    };
     Answer {
         number: answer.number,
+        fault,
         place: answer.place,
     }
 }
 
-/// An answer in short.
+/// An answer in short, without a fault.
 pub fn answer(number: u8, place: usize) -> Answer {
-    Answer { number, place }
+    Answer {
+        number,
+        fault: None,
+        place,
+    }
 }
 
 /// Both slices of a track.
