@@ -42,16 +42,16 @@ testBlock n c =
     (demand (closingFollows n (drop plainLength c)) closingWrong
     sound))
 
+-- The information of such a block.
+unfoldable pub blockInfo : ℕ → List ℕ → List ℕ
+blockInfo n c = take n (drop plainLength c)
+
 -- The data block where DL = 0: its opening, then one 00, which counts as its check.
 unfoldable pub testEmpty : List ℕ → Tested
 testEmpty c =
     demand (startsWith plainOpening c) openingWrong
     (demand (startsWith (0x00 ∷ []) (drop plainLength c)) checkWrong
     sound)
-
--- The information of such a block.
-unfoldable pub blockInfo : ℕ → List ℕ → List ℕ
-blockInfo n c = take n (drop plainLength c)
 
 -- The key; none where KL = 0, and nothing to be at fault.
 unfoldable pub testKey : List ℕ → Tested

@@ -1,30 +1,36 @@
--- Accept gives rows of the table, and no place beyond 4,002, the greatest L.
+-- Accept, Blank, Add and Correct give rows of the table, and no place beyond 4,002, the greatest L.
 use mathlib.Core.Path.{_≡_, refl, ap}
 use Prim.Native.Nat.{ℕ, zero, suc, _+_, _≤_}
 use native.Mathlib.Omega.{arith}
-use mathlib.Core.Bool.{Bool, true, false, not}
+use mathlib.Core.Bool.{Bool, true, false, not, _&&_}
 use mathlib.Core.List.{List, [], _∷_}
 use lib.ListN.{length, drop, length-append, length-drop}
-use lib.Dec.{leb}
+use lib.Dec.{leb, eqb}
 use borrow.Author.Tests.{leb-true}
 use Rattle.format.specs.Answer.{Answer, lentWrong, homeCheckWrong, homeFieldsWrong, firstCountMissing, countCheckWrong, countFieldsWrong, spanTooShort, sectorRepeated}
 use Rattle.format.specs.Fault.{Fault, Tested, sound, faulty}
 use Rattle.format.specs.Judged.{Judged, good, refused, then, require, requireSound, answerOf}
-use Rattle.format.specs.Lent.{lengthRight, lentForReading, cells}
+use Rattle.format.specs.Lent.{lengthRight, lentForReading, cells, bothLent}
 use Rattle.format.specs.Opening.{startsWith, plainOpening, closedAfter}
+use Rattle.format.specs.Address.{Address}
 use Rattle.format.specs.Home.{Home, homeFrom, findHome, homeBytes, homeOf, homeFieldsRight, judgeHomeOf, judgeHome, firstCountPlace}
 use Rattle.format.specs.Count.{Settled, unsettled, countFits, countClosed, countFieldsRight}
 use Rattle.format.specs.Block.{blocksFit}
 use Rattle.format.specs.Span.{joined, none, spans}
 use Rattle.format.specs.Sector.{Sector, openingLength, settle, judgeCount, readBlocks, judgeSector, readSpan}
-use Rattle.format.specs.Accept.{judgeMarks, readSpans, placedFrom, among, judgeNumbers, spansOf, firstCountEnd, judgeBehind, acceptCells, accept}
+use Rattle.format.specs.Accept.{Placed, Accepted, judgeMarks, readSpans, placedFrom, fromNumber, among, judgeNumbers, spansOf, firstCountEnd, judgeBehind, acceptCells, accept}
 use Rattle.format.specs.Blocks.{theKey, theData, Wanted, blocksAt, wantedPart, judgeFit, partIn}
+use Rattle.format.specs.Written.{writtenBehind, asPair}
+use Rattle.format.specs.Blank.{blank}
+use Rattle.format.specs.Add.{judgeAbsent, addedTo, addCells, add}
+use Rattle.format.specs.Correct.{rewrittenFrom, correctCells, correct}
 use Rattle.base.proofs.Tests.{cases, and-both}
 use Rattle.format.proofs.Track.HomeLocal.{found-window, home-window}
 use Rattle.format.proofs.Spans.StrayMark.{marks-stray}
 use Rattle.format.proofs.Spans.Cutting.{joined-spans}
 use Rattle.format.proofs.Track.Pairs.{lent-length}
 use Rattle.format.proofs.Sector.BlocksJudged.{block-fits, offsetOf, testOf, wrongAt, wrong-row, part-judged, fit-good}
+use Rattle.format.proofs.Correct.CorrectPair.{place-in-track}
 
 -- An answer of the table whose place is 4,002 at most.
 abbrev pub Row : Answer → Type 0
@@ -166,3 +172,44 @@ pub accept-within : (t m : List ℕ) → Within (accept t m)
 unfolding accept
 accept-within t m =
     within-require (lentForReading t m) lentWrong _ (omega arith, omega arith) (λ e. cells-within (cells t m) (cells-few t m e))
+
+-- Blank gives a row of the table, and no place beyond 4,002.
+pub blank-within : (l k : ℕ) (own : Address) (flag : ℕ) (partner : Address) (s : ℕ) (key body : List ℕ) → Within (blank l k own flag partner s key body)
+unfolding blank asPair writtenBehind
+blank-within l k own flag partner s key body = search (within-then, within-require, leb-true) depth 7
+
+-- A sector that carries S already.
+absent-within : (c : List ℕ) (s : ℕ) (xs : List Placed) (a : Accepted) → length c ≤ 4002 → acceptCells c ≡ good a → fromNumber s (a .sectors) ≡ xs → Within (judgeAbsent xs)
+unfolding judgeAbsent
+absent-within c s [] a l e f = (omega arith, omega arith)
+absent-within c s (x ∷ xs) a l e f = (omega arith, omega (arith, place-in-track c a e s x xs f))
+
+-- Where both pairs are lent within the rule, the track has 4,002 cells at most.
+both-few : (t m : List ℕ) (l k : ℕ) → bothLent t m l k ≡ true → length (cells t m) ≤ 4002
+unfolding bothLent
+both-few t m l k e = cells-few t m (and-both (lentForReading t m) (eqb l (length t) && eqb k (length t)) e .0)
+
+-- Whatever the gap after a block.
+module _ (gap : ℕ → ℕ → ℕ) where
+  -- The track with the new sector.
+  added-within : (xs : List Placed) (c : List ℕ) (h : Home) (i b7 s : ℕ) (key body : List ℕ) → Within (addedTo gap c h i b7 s key body xs)
+  unfolding addedTo writtenBehind
+  added-within [] c h i b7 s key body = (omega arith, omega arith)
+  added-within (x ∷ []) c h i b7 s key body = search (within-require, leb-true)
+  added-within (x ∷ y ∷ xs) c h i b7 s key body = added-within (y ∷ xs) c h (suc i) b7 s key body
+
+  -- Add gives a row of the table, and no place beyond 4,002.
+  pub add-within : (t m : List ℕ) (l k b7 s : ℕ) (key body : List ℕ) → Within (add gap t m l k b7 s key body)
+  unfolding add addCells asPair
+  add-within t m l k b7 s key body = search (within-then, within-require, both-few t m l k, cells-within, absent-within (cells t m) s, added-within, leb-true) depth 9
+
+  -- The track with the corrected sector.
+  rewritten-within : (xs : List Placed) (c key body : List ℕ) → Within (rewrittenFrom gap c key body xs)
+  unfolding rewrittenFrom writtenBehind
+  rewritten-within [] c key body = (omega arith, omega arith)
+  rewritten-within (x ∷ xs) c key body = search (within-require, leb-true)
+
+  -- Correct gives a row of the table, and no place beyond 4,002.
+  pub correct-within : (t m : List ℕ) (l k s : ℕ) (key body : List ℕ) → Within (correct gap t m l k s key body)
+  unfolding correct correctCells asPair
+  correct-within t m l k s key body = search (within-then, within-require, both-few t m l k, cells-within, rewritten-within, leb-true) depth 7

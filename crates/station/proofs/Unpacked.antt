@@ -5,15 +5,19 @@ use native.Mathlib.Omega.{arith}
 use mathlib.Core.List.{List}
 use Rattle.format.specs.Answer.{Answer, done, wantedWrong}
 use Rattle.format.specs.Judged.{Judged, good, refused, answerOf}
+use Rattle.format.specs.Address.{Address}
 use Rattle.format.specs.Accept.{accept}
+use Rattle.format.specs.Blank.{blank}
+use Rattle.format.specs.Add.{add}
+use Rattle.format.specs.Correct.{correct}
 use Rattle.format.specs.Find.{find}
 use Rattle.format.specs.Blocks.{Wanted, Part}
 use Rattle.format.specs.Walk.{Visited, step}
 use Rattle.format.specs.PairFind.{ofFirst, pairFind}
 use Rattle.station.specs.Packed.{packedAnswer, packedBounds, packedPart, packedPaired, packedVisited, packedVisit}
 use Rattle.format.specs.BlockFault.{SecondRight}
-use Rattle.format.proofs.Faults.SecondNumber.{OutcomeRight, second-most, accept-second, find-second, pair-second}
-use Rattle.station.proofs.Places.{Row, accept-within}
+use Rattle.format.proofs.Faults.SecondNumber.{OutcomeRight, second-most, accept-second, find-second, pair-second, blank-second, add-second, correct-second}
+use Rattle.station.proofs.Places.{Row, accept-within, blank-within, add-within, correct-within}
 use Rattle.station.proofs.Fields.{Inside, Fits, find-inside, pair-inside, step-fits}
 
 -- Bits 0 to 7.
@@ -52,6 +56,22 @@ answer-read a l s = let k = second-most a s in (omega arith, omega arith, omega 
 -- Accept's answer.
 pub accept-read : (t m : List ℕ) → TellsAnswer (packedAnswer (answerOf (accept t m))) (answerOf (accept t m))
 accept-read t m = answer-read (answerOf (accept t m)) (accept-within t m) (accept-second t m)
+
+-- The bits of Blank's result tell its answer.
+pub blank-read : (l k : ℕ) (own : Address) (flag : ℕ) (partner : Address) (s : ℕ) (key body : List ℕ) → let a = answerOf (blank l k own flag partner s key body) in TellsAnswer (packedAnswer a) a
+blank-read l k own flag partner s key body =
+    let n = blank-second l k own flag partner s key body in
+    answer-read _ (blank-within l k own flag partner s key body) (rw (n .0) (n .1))
+
+-- Whatever the gap after a block.
+module _ (gap : ℕ → ℕ → ℕ) where
+  -- The bits of Add's result tell its answer.
+  pub add-read : (t m : List ℕ) (l k b7 s : ℕ) (key body : List ℕ) → let a = answerOf (add gap t m l k b7 s key body) in TellsAnswer (packedAnswer a) a
+  add-read t m l k b7 s key body = answer-read _ (add-within gap t m l k b7 s key body) (add-second gap t m l k b7 s key body)
+
+  -- The bits of Correct's result tell its answer.
+  pub correct-read : (t m : List ℕ) (l k s : ℕ) (key body : List ℕ) → let a = answerOf (correct gap t m l k s key body) in TellsAnswer (packedAnswer a) a
+  correct-read t m l k s key body = answer-read _ (correct-within gap t m l k s key body) (correct-second gap t m l k s key body)
 
 -- The bits of r tell the outcome j and nothing else.
 abbrev pub Tells : ℕ → Judged Part → Type 0

@@ -21,8 +21,8 @@ use Rattle.format.specs.Accept.{judgeMarks, readSpans, placedFrom, among, judge
 use Rattle.format.specs.Blank.{namedBy, blankRight, writtenHead, blankSector, blank}
 use Rattle.format.specs.Add.{judgeAbsent, addedFlag, addedSector, addedTo, addCells, add}
 use Rattle.base.proofs.Tests.{and-both}
-use Rattle.worked.specs.Tracks.{address, blankOf, twoSectors, acceptOf, numbers, placesIn, places, placesOf, sectorOf, byHand, answerByHand, answerOfZeros}
-use Rattle.worked.specs.Table.{Case, sameNumbers, allHold, EachHolds, starred, further}
+use Rattle.worked.specs.Tracks.{address, blankOf, twoSectors, acceptOf, numbers, placesIn, places, placesOf, sectorOf, byHand, answerByHand, answerOfZeros, threeByHand, spoiledAt, answerSpoiled}
+use Rattle.worked.specs.Table.{Case, sameNumbers, allHold, EachHolds, starred, further, faults}
 use Rattle.format.specs.Blocks.{partAt, blocksAt, judgeFit}
 
 same-equal : (xs ys : List ℕ) → sameNumbers xs ys ≡ true → xs ≡ ys
@@ -42,7 +42,7 @@ each-holds (x ∷ cs) e =
     let h = and-both (sameNumbers (x .computed) (x .stated)) (allHold cs) e in
     (same-equal (x .computed) (x .stated) (h .0), each-holds cs (h .1))
 
-tables-pass : (allHold starred && allHold further) ≡ true
+tables-pass : (allHold starred && (allHold further && allHold faults)) ≡ true
 unfolding digits coefficients divisor bringDown remainder checkBytes
     lengthRight marksLegal lentForWriting lentForReading cells bytesOf marksOf opens closing closedAfter
     homeFlagRight sequenceRight countFlagRight namesItself addressIn addressBytes addressInRange sameAddress addressRight
@@ -52,13 +52,20 @@ unfolding digits coefficients divisor bringDown remainder checkBytes
     judgeMarks readSpans placedFrom among judgeNumbers judgeBehind acceptCells accept
     gapOne countInfo writtenBlock writtenKey writtenData countOpening writtenSector asPair gapAfter reach writtenSpans writtenBehind
     contentRight namedBy blankRight writtenHead blankSector blank bothLent endOf fromNumber judgeAbsent addedFlag addedSector addedTo addCells add
-    address blankOf twoSectors acceptOf numbers placesIn places placesOf sectorOf byHand answerByHand answerOfZeros sameNumbers allHold starred further
+    address blankOf twoSectors acceptOf numbers placesIn places placesOf sectorOf byHand answerByHand answerOfZeros threeByHand spoiledAt answerSpoiled sameNumbers allHold starred further faults
 tables-pass = refl
 
 -- The starred worked numbers.
 pub starred-hold : EachHolds starred
-starred-hold = each-holds starred (and-both (allHold starred) (allHold further) tables-pass .0)
+starred-hold = each-holds starred (and-both (allHold starred) (allHold further && allHold faults) tables-pass .0)
+
+others-pass : (allHold further ≡ true) × (allHold faults ≡ true)
+others-pass = and-both (allHold further) (allHold faults) (and-both (allHold starred) (allHold further && allHold faults) tables-pass .1)
 
 -- Those of the numbers 6 to 8 that have no star.
 pub further-hold : EachHolds further
-further-hold = each-holds further (and-both (allHold starred) (allHold further) tables-pass .1)
+further-hold = each-holds further (others-pass .0)
+
+-- The table of the second number.
+pub faults-hold : EachHolds faults
+faults-hold = each-holds faults (others-pass .1)

@@ -1,4 +1,4 @@
--- The worked numbers as one table: what the definitions compute beside what the scope document states.
+-- The worked numbers as one table: what the definitions compute beside what the scope document states; and a table of the second number.
 use mathlib.Core.Path.{_≡_}
 use Prim.Native.Nat.{ℕ}
 use mathlib.Core.Bool.{Bool, true, false, _&&_}
@@ -7,7 +7,7 @@ use lib.Dec.{eqb}
 use Rattle.crc.specs.Check.{checkBytes}
 use Rattle.format.specs.Judged.{answerOf}
 use Rattle.format.specs.Address.{addressBytes}
-use Rattle.worked.specs.Tracks.{address, blankOf, twoSectors, acceptOf, numbers, placesOf, answerByHand, answerOfZeros}
+use Rattle.worked.specs.Tracks.{address, blankOf, twoSectors, acceptOf, numbers, placesOf, answerByHand, answerOfZeros, answerSpoiled}
 
 -- A row of the table.
 pub record Case : Type 0 where
@@ -69,4 +69,23 @@ further =
     ∷ record { computed = answerByHand 30 (address 100 10) 21 13; stated = 4 ∷ 30 ∷ [] }
     ∷ record { computed = answerByHand 30 (address 100 7) 20 13; stated = 9 ∷ 55 ∷ [] }
     ∷ record { computed = answerByHand 30 (address 100 7) 21 12; stated = 9 ∷ 122 ∷ [] }
+    ∷ []
+
+-- The second number: a short track as it is; its key with opening, check and closing byte wrong; its data likewise, the check by an information byte; a data block where DL = 0
+-- with opening and 00 wrong; two and three parts wrong at once; key and data both wrong.
+unfoldable pub faults : List Case
+faults =
+    record { computed = answerSpoiled []; stated = 0 ∷ 0 ∷ 0 ∷ [] }
+    ∷ record { computed = answerSpoiled (157 ∷ []); stated = 10 ∷ 1 ∷ 153 ∷ [] }
+    ∷ record { computed = answerSpoiled (162 ∷ []); stated = 10 ∷ 2 ∷ 153 ∷ [] }
+    ∷ record { computed = answerSpoiled (164 ∷ []); stated = 10 ∷ 3 ∷ 153 ∷ [] }
+    ∷ record { computed = answerSpoiled (176 ∷ []); stated = 11 ∷ 1 ∷ 176 ∷ [] }
+    ∷ record { computed = answerSpoiled (182 ∷ []); stated = 11 ∷ 2 ∷ 176 ∷ [] }
+    ∷ record { computed = answerSpoiled (188 ∷ []); stated = 11 ∷ 3 ∷ 176 ∷ [] }
+    ∷ record { computed = answerSpoiled (246 ∷ []); stated = 11 ∷ 1 ∷ 241 ∷ [] }
+    ∷ record { computed = answerSpoiled (247 ∷ []); stated = 11 ∷ 2 ∷ 241 ∷ [] }
+    ∷ record { computed = answerSpoiled (163 ∷ 164 ∷ []); stated = 10 ∷ 2 ∷ 153 ∷ [] }
+    ∷ record { computed = answerSpoiled (158 ∷ 164 ∷ []); stated = 10 ∷ 1 ∷ 153 ∷ [] }
+    ∷ record { computed = answerSpoiled (188 ∷ 185 ∷ 181 ∷ []); stated = 11 ∷ 1 ∷ 176 ∷ [] }
+    ∷ record { computed = answerSpoiled (164 ∷ 176 ∷ []); stated = 10 ∷ 3 ∷ 153 ∷ [] }
     ∷ []

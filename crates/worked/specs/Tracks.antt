@@ -2,7 +2,7 @@
 use Prim.Native.Nat.{ℕ, _+_}
 use mathlib.Core.Bool.{Bool, true, false}
 use mathlib.Core.List.{List, [], _∷_, _++_}
-use lib.ListN.{length, drop, replicate}
+use lib.ListN.{length, take, drop, replicate}
 use Rattle.format.specs.Answer.{Answer}
 use Rattle.format.specs.Judged.{Judged, good, refused, then, answerOf}
 use Rattle.format.specs.Address.{Address, addressBytes}
@@ -74,3 +74,24 @@ answerByHand p a n m = numbers (answerOf (acceptCells (byHand p a n m)))
 -- Accept's answer for a pair of l zeros.
 unfoldable pub answerOfZeros : ℕ → List ℕ
 answerOfZeros l = numbers (answerOf (accept (replicate l 0x00) (replicate l 0)))
+
+-- A short track by hand: home at 30; sector 0 as above; sector 1 with a key of 3 bytes, which opens at 153, and 4 bytes of data, which open at 176;
+-- sector 2 without a key and without data, whose block opens at 241.
+unfoldable pub threeByHand : List ℕ
+threeByHand =
+    let a : Address = address 100 7 in
+    let keyed : Sector = record { first = false; flag = 0x80; address = a; number = 1; keyBytes = replicate 3 0x41; dataBytes = replicate 4 0x42 } in
+    replicate 30 0x00
+    ++ ((writtenBlock (0x00 ∷ addressBytes a) ++ homeGap)
+    ++ ((writtenSector (sectorOf true 0x00 a 0 8) ++ replicate 21 0xFF)
+    ++ ((writtenSector keyed ++ replicate 21 0xFF)
+    ++ (writtenSector (sectorOf false 0x00 a 2 0) ++ replicate 13 0xFF))))
+
+-- The cells c with the byte A5 at each of the places ps.
+unfoldable pub spoiledAt : List ℕ → List ℕ → List ℕ
+spoiledAt [] c = c
+spoiledAt (p ∷ ps) c = spoiledAt ps (take p c ++ (0xA5 ∷ drop (p + 1) c))
+
+-- Number, second number and place of Accept's answer for that track spoiled at these places.
+unfoldable pub answerSpoiled : List ℕ → List ℕ
+answerSpoiled ps = let a : Answer = answerOf (acceptCells (spoiledAt ps threeByHand)) in a .number ∷ a .fault ∷ a .place ∷ []
