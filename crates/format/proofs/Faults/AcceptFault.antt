@@ -1,5 +1,5 @@
 -- Accept gives 10 or 11 exactly where the first sector that it refuses has a key or data that is wrong, with the first part of it that is.
-use mathlib.Core.Path.{_≡_, refl, sym, ap, _∙_, subst}
+use mathlib.Core.Path.{_≡_, refl, sym, ap, _∙_}
 use mathlib.Core.Logic.{_⊎_, inl, inr, ⊎-elim}
 use Prim.Native.Nat.{ℕ, zero, suc, _+_, _≤_}
 use native.Mathlib.Omega.{arith}
@@ -7,30 +7,30 @@ use mathlib.Core.Bool.{Bool, true, false, not}
 use mathlib.Core.List.{List, [], _∷_, _++_}
 use lib.ListN.{length, drop, length-drop}
 use lib.Seq.{drop-append-seam, drop-append-le, drop-drop}
-use Rattle.format.specs.Answer.{Answer, lentWrong, homeMissing, homeCheckWrong, homeFieldsWrong, firstCountMissing, countCheckWrong, countFieldsWrong, spanTooShort, sectorRepeated}
+use Rattle.format.specs.Answer.{Answer, lentWrong, firstCountMissing}
 use Rattle.format.specs.Fault.{Fault, sound}
 use Rattle.format.specs.Judged.{Judged, good, refused}
 use Rattle.format.specs.Lent.{lentForReading, cells}
-use Rattle.format.specs.Opening.{startsWith, plainOpening, closedAfter}
-use Rattle.format.specs.Home.{Home, homeFrom, findHome, homeBytes, homeOf, homeFieldsRight, judgeHomeOf, judgeHome, firstCountPlace}
-use Rattle.format.specs.Count.{Settled, unsettled, countFits, countClosed, countFieldsRight}
+use Rattle.format.specs.Opening.{startsWith, plainOpening}
+use Rattle.format.specs.Home.{Home, judgeHome, firstCountPlace}
+use Rattle.format.specs.Count.{Settled, unsettled}
 use Rattle.format.specs.Block.{blocksFit, testKey}
 use Rattle.format.specs.Blocks.{Wanted, theKey, theData, blocksAt, wantedPart, judgeFit}
 use Rattle.format.specs.BlockFault.{FaultIn, refusesBlock}
 use Rattle.format.specs.Span.{none, joined, cleanSpan, cleanSpans}
 use Rattle.format.specs.Sector.{Sector, openingLength, isFirst, sectorIn, settle, judgeCount, readBlocks, judgeSector, readSpan}
-use Rattle.format.specs.Accept.{judgeMarks, readSpans, Placed, placedFrom, among, judgeNumbers, Accepted, spansOf, firstCountEnd, judgeBehind, acceptCells, accept}
-use Rattle.base.proofs.Tests.{cases, false-true, and-both}
-use Rattle.format.proofs.Base.Judged.{refused-inj, good-refused, then-refused, require-refused}
+use Rattle.format.specs.Accept.{judgeMarks, readSpans, placedFrom, among, judgeNumbers, Accepted, spansOf, firstCountEnd, judgeBehind, acceptCells, accept}
+use Rattle.base.proofs.Tests.{false-true, and-both}
+use Rattle.format.proofs.Base.Judged.{good-refused, then-refused, require-refused}
 use Rattle.format.proofs.Spans.Cutting.{joined-spans}
 use Rattle.format.proofs.Spans.Marks.{marks-clean}
 use Rattle.format.proofs.Spans.SpanAgrees.{clean-behind}
-use Rattle.format.proofs.Spans.StrayMark.{marks-stray}
 use Rattle.format.proofs.Sector.BlocksJudged.{offsetOf, wrongAt, block-fits, fit-good, part-good}
-use Rattle.format.proofs.Sector.FaultBytes.{FaultAt, fault-at, fault-tested, part-refused, fit-refused}
+use Rattle.format.proofs.Sector.FaultBytes.{FaultAt, fault-at, fault-tested, part-refused}
 use Rattle.format.proofs.Sector.ReadSector.{restOf}
 use Rattle.format.proofs.Track.Pairs.{drop-cells}
 use Rattle.format.proofs.Find.CandidateBytes.{front-bytes}
+use Rattle.format.proofs.Faults.OtherAnswers.{other-refused, home-other, marks-other, count-other, fit-other, numbers-other}
 
 -- A span that Accept has come to.
 pub record Reached : Type 0 where
@@ -95,50 +95,6 @@ pub record FaultySector (t m : List ℕ) (w : Wanted) (f : Fault) (q : ℕ) : Ty
   -- Its block is at fault.
   pub faulty : FaultySpan home reached w f q
 
-home-from-refused : (n p : ℕ) (c : List ℕ) (a : Answer) → homeFrom n p c ≡ refused a → refusesBlock a ≡ false
-unfolding homeFrom
-home-from-refused zero p c a e = ap refusesBlock (sym (refused-inj {A = ℕ} homeMissing a e))
-home-from-refused (suc n) p c a e =
-    cases (startsWith plainOpening (drop p c))
-    (λ o. good-refused p a (rw o at e))
-    (λ o. home-from-refused n (suc p) c a (rw o at e))
-
--- Home is refused by 2, 3 or 4.
-home-refused : (c : List ℕ) (a : Answer) → judgeHome c ≡ refused a → refusesBlock a ≡ false
-unfolding judgeHome findHome judgeHomeOf
-home-refused c a e =
-    then-refused (findHome c) (λ p. judgeHomeOf p (homeBytes p c)) a e (home-from-refused 15 23 c a)
-    (λ p _ d. require-refused (closedAfter 5 (homeBytes p c)) (homeCheckWrong p) _ a d
-    (λ _ g. ap refusesBlock (sym g))
-    (λ _ d. require-refused (homeFieldsRight (homeOf p (homeBytes p c))) (homeFieldsWrong p) _ a d
-    (λ _ g. ap refusesBlock (sym g))
-    (λ _ g. good-refused (homeOf p (homeBytes p c)) a g)))
-
--- A stray mark is refused by 5.
-marks-refused : (e : ℕ) (c : List ℕ) (a : Answer) → judgeMarks e 0 0 c ≡ refused a → refusesBlock a ≡ false
-marks-refused e c a g = let s = marks-stray e c a g in ap refusesBlock (s .1)
-
--- Sectors that repeat a number are refused by 13.
-numbers-refused : (seen : List ℕ) (xs : List Placed) (a : Answer) → judgeNumbers seen xs ≡ refused a → refusesBlock a ≡ false
-unfolding judgeNumbers
-numbers-refused seen [] a e = good-refused tt a e
-numbers-refused seen (x ∷ xs) a e =
-    require-refused (not (among (x .sector .number) seen)) (sectorRepeated (x .place)) _ a e
-    (λ _ g. ap refusesBlock (sym g))
-    (λ _ g. numbers-refused (x .sector .number ∷ seen) xs a g)
-
--- A count is refused by 7, 8 or 9.
-count-refused : (h : Home) (i : ℕ) (x : Settled) (p : ℕ) (r : List ℕ) (a : Answer) → judgeCount h i x p r ≡ refused a → refusesBlock a ≡ false
-unfolding judgeCount
-count-refused h i x p r a e =
-    require-refused (countFits r) (spanTooShort p) _ a e
-    (λ _ g. ap refusesBlock (sym g))
-    (λ _ d. require-refused (countClosed r) (countCheckWrong p) _ a d
-    (λ _ g. ap refusesBlock (sym g))
-    (λ _ d. require-refused (countFieldsRight h i x r) (countFieldsWrong p) (good tt) a d
-    (λ _ g. ap refusesBlock (sym g))
-    (λ _ g. good-refused tt a g)))
-
 -- The answer a is that of a block at fault in y.
 abbrev FaultRead : Home → Reached → Answer → Type 0
 FaultRead h y a = (w : Wanted) × (f : Fault) × (q : ℕ) × (a ≡ wrongAt w f q) × FaultySpan h y w f q
@@ -151,9 +107,9 @@ sector-refused h y a o e =
     let r : List ℕ = restIn y in
     let p : ℕ = placeIn y in
     then-refused (judgeCount h (y .position) (y .shared) (y .place) r) _ a e
-    (λ g. inl (count-refused h (y .position) (y .shared) (y .place) r a g))
+    (λ g. inl (other-refused (judgeCount h (y .position) (y .shared) (y .place) r) a (count-other h (y .position) (y .shared) (y .place) r) g))
     (λ _ c d. then-refused (judgeFit (y .place) (y .last) r) _ a d
-    (λ g. inl (fit-refused (y .place) (y .last) r a g))
+    (λ g. inl (other-refused (judgeFit (y .place) (y .last) r) a (fit-other (y .place) (y .last) r) g))
     (λ v k d.
     let fit : blocksFit (y .last) r ≡ true = fit-good (y .place) (y .last) r v k in
     let here : (w : Wanted) → (w ≡ theData → testKey r ≡ sound) → wantedPart w (blocksAt p r) ≡ refused a → (refusesBlock a ≡ false) ⊎ FaultRead h y a = λ w s g.
@@ -220,12 +176,12 @@ accept-refused t m a e =
     require-refused (lentForReading t m) lentWrong (acceptCells c) a e
     (λ _ g. inl (ap refusesBlock (sym g)))
     (λ l d. then-refused (judgeHome c) _ a d
-    (λ g. inl (home-refused c a g))
+    (λ g. inl (other-refused (judgeHome c) a (home-other c) g))
     (λ h j d.
     let p : ℕ = firstCountPlace (h .place) in
     then-refused (judgeBehind h c) _ a d
     (λ d. then-refused (judgeMarks (firstCountEnd (h .place)) 0 0 c) _ a d
-    (λ g. inl (marks-refused (firstCountEnd (h .place)) c a g))
+    (λ g. inl (other-refused (judgeMarks (firstCountEnd (h .place)) 0 0 c) a (marks-other c (firstCountEnd (h .place)) 0 0) g))
     (λ _ k d. then-refused (readSpans h 0 unsettled p (spansOf h c)) _ a d
     (λ g.
     let r = comes-refused h 0 unsettled p (spansOf h c) a g in
@@ -234,7 +190,7 @@ accept-refused t m a e =
     (λ (z : FaultRead h y a). inr (z .0, z .1, z .2, z .3, record { home = h; reached = y; lent = l; home-judged = j; marks-judged = k; comes = r .1; faulty = z .4 }))
     (span-refused h (y .position) (y .shared) (y .place) (y .last) (y .span) a (r .2)))
     (λ ss _ d. then-refused (judgeNumbers [] (placedFrom p (spansOf h c) ss)) _ a d
-    (λ g. inl (numbers-refused [] (placedFrom p (spansOf h c) ss) a g))
+    (λ g. inl (other-refused (judgeNumbers [] (placedFrom p (spansOf h c) ss)) a (numbers-other (placedFrom p (spansOf h c) ss) []) g))
     (λ _ _ g. good-refused (placedFrom p (spansOf h c) ss) a g))))
     (λ xs _ g. good-refused {A = Accepted} (record { home = h; sectors = xs }) a g)))
 

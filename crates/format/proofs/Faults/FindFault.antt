@@ -2,10 +2,9 @@
 use mathlib.Core.Path.{_≡_, refl, sym, ap, _∙_, subst}
 use mathlib.Core.Logic.{_⊎_, inl, inr, ⊎-elim}
 use Prim.Native.Nat.{ℕ, _+_}
-use native.Mathlib.Omega.{arith}
 use mathlib.Core.Bool.{true, false}
 use mathlib.Core.List.{List, [], _∷_}
-use Rattle.format.specs.Answer.{Answer, lentWrong, sectorMissing, sectorRepeated}
+use Rattle.format.specs.Answer.{Answer, lentWrong}
 use Rattle.format.specs.Fault.{Fault}
 use Rattle.format.specs.Judged.{refused}
 use Rattle.format.specs.Lent.{lentForReading, cells}
@@ -16,11 +15,12 @@ use Rattle.format.specs.Find.{carrying, only, candidatePart, findCells, 
 use Rattle.format.specs.Blocks.{Wanted, judgeFit}
 use Rattle.base.specs.Lists.{Member}
 use Rattle.base.proofs.Tests.{false-true}
-use Rattle.format.proofs.Base.Judged.{refused-inj, good-refused, then-refused, require-refused}
+use Rattle.format.proofs.Base.Judged.{then-refused, require-refused}
 use Rattle.format.proofs.Sector.BlocksJudged.{offsetOf, wrongAt, fit-good}
-use Rattle.format.proofs.Sector.FaultBytes.{FaultAt, fault-at, part-refused, part-faulty, fit-refused}
+use Rattle.format.proofs.Sector.FaultBytes.{FaultAt, fault-at, part-refused, part-faulty}
 use Rattle.format.proofs.Find.CandidateBytes.{rest-in-track}
 use Rattle.format.proofs.Find.FindParts.{restPlace, only-is, carrying-member}
+use Rattle.format.proofs.Faults.OtherAnswers.{other-refused, fit-other, only-other}
 
 -- The key or the data of sector s is at fault on the pair t and m: the part f is the first that is wrong in the block that opens at q, which is that of the candidate x.
 pub record FaultyPart (s : ℕ) (w : Wanted) (t m : List ℕ) (f : Fault) (q : ℕ) (x : Candidate) : Type 0 where
@@ -35,13 +35,6 @@ pub record FaultyPart (s : ℕ) (w : Wanted) (t m : List ℕ) (f : Fault) (q : �
   -- The part f of it is the first that is wrong.
   pub fault : FaultIn w f (x .rest)
 
--- No candidate and a second one are refused by 12 and 13.
-only-refused : (xs : List Candidate) (a : Answer) → only xs ≡ refused a → refusesBlock a ≡ false
-unfolding only
-only-refused [] a e = ap refusesBlock (sym (refused-inj {A = Candidate} sectorMissing a e))
-only-refused (x ∷ []) a e = good-refused x a e
-only-refused (x ∷ y ∷ r) a e = ap refusesBlock (sym (refused-inj {A = Candidate} (sectorRepeated (y .place)) a e))
-
 -- The answer a is that of the block asked for, which is at fault.
 abbrev FaultFound : ℕ → Wanted → List ℕ → List ℕ → Answer → Type 0
 FaultFound s w t m a = (f : Fault) × (q : ℕ) × (x : Candidate) × (a ≡ wrongAt w f q) × FaultyPart s w t m f q x
@@ -54,9 +47,9 @@ find-refused s w t m a e =
     require-refused (lentForReading t m) lentWrong (findCells s w (cells t m)) a e
     (λ b g. inl (ap refusesBlock (sym g)))
     (λ l d. then-refused (only (carrying s xs)) (candidatePart w) a d
-    (λ g. inl (only-refused (carrying s xs) a g))
+    (λ g. inl (other-refused (only (carrying s xs)) a (only-other (carrying s xs)) g))
     (λ x o d. then-refused (judgeFit (x .place) (x .last) (x .rest)) _ a d
-    (λ g. inl (fit-refused (x .place) (x .last) (x .rest) a g))
+    (λ g. inl (other-refused (judgeFit (x .place) (x .last) (x .rest)) a (fit-other (x .place) (x .last) (x .rest)) g))
     (λ v k d.
     let fit : blocksFit (x .last) (x .rest) ≡ true = fit-good (x .place) (x .last) (x .rest) v k in
     let h = part-refused w (restPlace x) (x .rest) a d in

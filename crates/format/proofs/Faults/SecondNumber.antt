@@ -2,30 +2,30 @@
 use mathlib.Core.Path.{_≡_, refl}
 use Prim.Native.Nat.{ℕ, zero, suc, _≤_}
 use native.Mathlib.Omega.{arith}
-use mathlib.Core.Bool.{Bool, true, false, _||_}
+use mathlib.Core.Bool.{Bool, true, false}
 use mathlib.Core.List.{List, [], _∷_}
-use lib.Dec.{eqb}
 use Rattle.base.specs.Pick.{pick}
 use Rattle.base.proofs.Tests.{cases}
 use Rattle.format.specs.Answer.{Answer}
 use Rattle.format.specs.Fault.{Fault, openingWrong, checkWrong, closingWrong, faultNumber, Tested, sound, faulty}
-use Rattle.format.specs.Judged.{Judged, good, refused, then, requireSound, answerOf}
+use Rattle.format.specs.Judged.{Judged, good, refused, requireSound, answerOf}
 use Rattle.format.specs.Address.{Address}
-use Rattle.format.specs.Home.{Home, homeFrom, findHome, judgeHomeOf, judgeHome}
+use Rattle.format.specs.Home.{Home}
 use Rattle.format.specs.Count.{Settled}
 use Rattle.format.specs.BlockFault.{refusesBlock, SecondRight, SecondNone}
-use Rattle.format.specs.Blocks.{Wanted, theKey, theData, blocksAt, wantedPart, judgeFit}
-use Rattle.format.specs.Sector.{judgeCount, readBlocks, judgeSector, readSpan}
-use Rattle.format.specs.Accept.{Placed, Accepted, judgeMarks, readSpans, judgeNumbers, judgeBehind, acceptCells, accept}
+use Rattle.format.specs.Blocks.{Wanted, theKey, theData, blocksAt, wantedPart}
+use Rattle.format.specs.Sector.{readBlocks, judgeSector, readSpan}
+use Rattle.format.specs.Accept.{Placed, Accepted, readSpans, judgeBehind, acceptCells, accept}
 use Rattle.format.specs.Listing.{list}
 use Rattle.format.specs.Candidate.{Candidate}
-use Rattle.format.specs.Find.{only, candidatePart, findCells, find}
+use Rattle.format.specs.Find.{candidatePart, findCells, find}
 use Rattle.format.specs.Walk.{nextFrom, step}
 use Rattle.format.specs.PairFind.{Paired, judgeFirstCount, judgeFirst, findOnSecond, findByFlag, pairFind}
 use Rattle.format.specs.Written.{writtenBehind, asPair}
 use Rattle.format.specs.Blank.{blank}
 use Rattle.format.specs.Add.{judgeAbsent, addedTo, addCells, add}
 use Rattle.format.specs.Correct.{rewrittenFrom, correctCells, correct}
+use Rattle.format.proofs.Faults.OtherAnswers.{then-right, pick-right, home-other, marks-other, count-other, fit-other, numbers-other, only-other}
 
 -- What is judged answers with the second number that goes with the number.
 abbrev pub OutcomeRight : {A : Type 0} → Judged A → Type 0
@@ -35,22 +35,14 @@ OutcomeRight j = SecondRight (answerOf j)
 pub second-most : (a : Answer) → SecondRight a → a .fault ≤ 3
 second-most a h = cases (refusesBlock a) (λ e. (rw e at h) .1) (λ e. let z : a .fault ≡ 0 = rw e at h in omega arith)
 
--- What holds of the answer of each step holds of the answer of the whole.
-module _ (P : Answer → Type 0) where
-  -- One judgement after another.
-  pub then-right : {A B : Type 0} (j : Judged A) (k : A → Judged B) → P (answerOf j) → ((x : A) → P (answerOf (k x))) → P (answerOf (then j k))
-  then-right (good x) k h f = f x
-  then-right (refused a) k h f = h
+-- A judgement that looks at no block answers so.
+other-right : {A : Type 0} (j : Judged A) → SecondNone (answerOf j) → OutcomeRight j
+other-right j n = rw (n .0) (n .1)
 
-  -- A choice; a test is one between going on and its refusal.
-  pub pick-right : {A : Type 0} (b : Bool) (j k : Judged A) → P (answerOf j) → P (answerOf k) → P (answerOf (pick b j k))
-  pick-right true j k h f = h
-  pick-right false j k h f = f
-
-  -- The test of a block.
-  pub sound-right : {A : Type 0} (t : Tested) (a : Fault → Answer) (j : Judged A) → ((f : Fault) → P (a f)) → P (answerOf j) → P (answerOf (requireSound t a j))
-  sound-right sound a j h k = k
-  sound-right (faulty f) a j h k = h f
+-- The test of a block answers so, where each of its refusals and what follows it do.
+sound-right : {A : Type 0} (t : Tested) (a : Fault → Answer) (j : Judged A) → ((f : Fault) → SecondRight (a f)) → OutcomeRight j → OutcomeRight (requireSound t a j)
+sound-right sound a j h k = k
+sound-right (faulty f) a j h k = h f
 
 -- What is at fault in a block is told by 1, 2 or 3.
 fault-within : (f : Fault) → (1 ≤ faultNumber f) × (faultNumber f ≤ 3)
@@ -58,35 +50,17 @@ fault-within openingWrong = omega arith
 fault-within checkWrong = omega arith
 fault-within closingWrong = omega arith
 
--- The place at which home opens.
-place-second : (n q : ℕ) (c : List ℕ) → OutcomeRight (homeFrom n q c)
-unfolding homeFrom
-place-second zero q c = refl
-place-second (suc n) q c = search (pick-right SecondRight, place-second n)
-
--- Home.
-home-second : (c : List ℕ) → OutcomeRight (judgeHome c)
-unfolding judgeHome judgeHomeOf findHome
-home-second c = search (then-right SecondRight, pick-right SecondRight, place-second)
-
--- The marks.
-marks-second : (c : List ℕ) (e k q : ℕ) → OutcomeRight (judgeMarks e k q c)
-unfolding judgeMarks
-marks-second [] e k q = refl
-marks-second (x ∷ c) e zero q = search (pick-right SecondRight, marks-second c)
-marks-second (x ∷ c) e (suc k) q = marks-second c e k (suc q)
-
 -- The key or the data block.
 part-second : (w : Wanted) (q : ℕ) (r : List ℕ) → OutcomeRight (wantedPart w (blocksAt q r))
 unfolding blocksAt
-part-second theKey q r = search (sound-right SecondRight, fault-within)
-part-second theData q r = search (sound-right SecondRight, fault-within)
+part-second theKey q r = search (sound-right, fault-within)
+part-second theData q r = search (sound-right, fault-within)
 
 -- A sector in its span.
 span-second : (i : ℕ) (h : Home) (x : Settled) (p : ℕ) (last : Bool) (g : List ℕ) → OutcomeRight (readSpan h i x p last g)
-unfolding readSpan judgeSector judgeCount readBlocks judgeFit
-span-second zero h x p last g = search (then-right SecondRight, pick-right SecondRight, part-second theKey, part-second theData) depth 6
-span-second (suc i) h x p last g = search (then-right SecondRight, pick-right SecondRight, part-second theKey, part-second theData)
+unfolding readSpan judgeSector readBlocks
+span-second zero h x p last g = search (then-right SecondRight, pick-right SecondRight, other-right, count-other, fit-other, part-second theKey, part-second theData) depth 8
+span-second (suc i) h x p last g = search (then-right SecondRight, other-right, count-other, fit-other, part-second theKey, part-second theData) depth 8
 
 -- The sectors of the spans.
 spans-second : (gs : List (List ℕ)) (h : Home) (i : ℕ) (x : Settled) (p : ℕ) → OutcomeRight (readSpans h i x p gs)
@@ -94,16 +68,10 @@ unfolding readSpans
 spans-second [] h i x p = refl
 spans-second (g ∷ gs) h i x p = search (then-right SecondRight, span-second, spans-second gs)
 
--- The numbers of the sectors.
-numbers-second : (xs : List Placed) (seen : List ℕ) → OutcomeRight (judgeNumbers seen xs)
-unfolding judgeNumbers
-numbers-second [] seen = refl
-numbers-second (x ∷ xs) seen = search (pick-right SecondRight, numbers-second xs)
-
 -- The cells of a track.
 cells-second : (c : List ℕ) → OutcomeRight (acceptCells c)
 unfolding acceptCells judgeBehind
-cells-second c = search (then-right SecondRight, home-second, marks-second, spans-second, numbers-second) depth 7
+cells-second c = search (then-right SecondRight, other-right, home-other, marks-other, spans-second, numbers-other) depth 8
 
 -- Accept answers with the second number that goes with the number.
 pub accept-second : (t m : List ℕ) → OutcomeRight (accept t m)
@@ -115,17 +83,10 @@ pub list-second : (n : ℕ) (t m : List ℕ) → OutcomeRight (list n t m)
 unfolding list
 list-second n t m = search (pick-right SecondRight, then-right SecondRight, accept-second)
 
--- The only candidate.
-only-second : (xs : List Candidate) → OutcomeRight (only xs)
-unfolding only
-only-second [] = refl
-only-second (x ∷ []) = refl
-only-second (x ∷ y ∷ r) = refl
-
 -- Find answers with the second number that goes with the number.
 pub find-second : (s : ℕ) (w : Wanted) (t m : List ℕ) → OutcomeRight (find s w t m)
-unfolding find findCells candidatePart judgeFit
-find-second s w t m = search (pick-right SecondRight, then-right SecondRight, only-second, part-second)
+unfolding find findCells candidatePart
+find-second s w t m = search (pick-right SecondRight, then-right SecondRight, other-right, only-other, fit-other, part-second) depth 8
 
 -- A choice between outcomes that speak of one track or the other.
 paired-second : (b : Bool) (x y : Paired) → OutcomeRight (x .outcome) → OutcomeRight (y .outcome) → OutcomeRight (pick b x y .outcome)
@@ -146,8 +107,8 @@ flag-second s w t m u v (good h) k = search (paired-second, partner-second, find
 
 -- Pair find answers with the second number that goes with the number, whichever track it speaks of.
 pub pair-second : (s : ℕ) (w : Wanted) (t m u v : List ℕ) → OutcomeRight (pairFind s w t m u v .outcome)
-unfolding pairFind judgeFirst judgeFirstCount judgeCount
-pair-second s w t m u v = search (flag-second, pick-right SecondRight, then-right SecondRight, home-second) depth 8
+unfolding pairFind judgeFirst judgeFirstCount
+pair-second s w t m u v = search (flag-second, pick-right SecondRight, then-right SecondRight, other-right, home-other, count-other) depth 8
 
 -- The next candidate.
 next-second : (p : ℕ) (xs : List Candidate) → SecondNone (answerOf (nextFrom p xs))

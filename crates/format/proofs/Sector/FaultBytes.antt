@@ -10,16 +10,16 @@ use lib.Seq.{take-at, drop-append-le, drop-drop}
 use lib.Dec.{eqb}
 use borrow.Author.Tests.{eqb-true, eqb-false, eq-eqb, ne-eqb}
 use Rattle.crc.specs.Check.{checkBytes}
-use Rattle.format.specs.Answer.{Answer, spanTooShort}
+use Rattle.format.specs.Answer.{Answer}
 use Rattle.format.specs.Judged.{good, refused}
 use Rattle.format.specs.Opening.{startsWith, plainOpening, checkFollows, closingFollows}
 use Rattle.format.specs.Count.{keyLength, dataLength}
 use Rattle.format.specs.Fault.{Fault, openingWrong, checkWrong, closingWrong, sound, faulty}
 use Rattle.format.specs.Block.{keyOffset, dataOffset, blocksFit, testBlock, testEmpty, testKey, testData}
-use Rattle.format.specs.Blocks.{Wanted, theKey, theData, partIn, blocksAt, wantedPart, judgeFit}
-use Rattle.format.specs.BlockFault.{OpeningStands, CheckStands, ClosingStands, ZeroStands, BlockFault, EmptyFault, FaultOf, FaultIn, refusesBlock}
+use Rattle.format.specs.Blocks.{Wanted, theKey, theData, partIn, blocksAt, wantedPart}
+use Rattle.format.specs.BlockFault.{OpeningStands, CheckStands, ClosingStands, ZeroStands, BlockFault, EmptyFault, FaultOf, FaultIn}
 use Rattle.base.proofs.Tests.{cases, false-true}
-use Rattle.format.proofs.Base.Judged.{good-refused, require-refused, sound-faulty, demand-faulty, sound-refused}
+use Rattle.format.proofs.Base.Judged.{good-refused, sound-faulty, demand-faulty, sound-refused}
 use Rattle.format.proofs.Cells.Opening.{starts-with-self, starts-with-front}
 use Rattle.format.proofs.Cells.Local.{block-local, empty-local}
 use Rattle.format.proofs.Sector.BlocksJudged.{offsetOf, lengthOf, testOf, wrongAt, block-fits, part-judged, part-wrong}
@@ -186,8 +186,3 @@ part-refused w q r a e =
 -- and where it is wrong it is refused by that answer.
 pub part-faulty : (w : Wanted) (f : Fault) (q : ℕ) (r : List ℕ) → FaultIn w f r → wantedPart w (blocksAt q r) ≡ refused (wrongAt w f (q + offsetOf w r))
 part-faulty w f q r v = part-wrong w q r f (fault-tested w f r v)
-
--- The blocks and the least gap are refused by 9.
-pub fit-refused : (p : ℕ) (last : Bool) (r : List ℕ) (a : Answer) → judgeFit p last r ≡ refused a → refusesBlock a ≡ false
-unfolding judgeFit
-fit-refused p last r a e = require-refused (blocksFit last r) (spanTooShort p) (good tt) a e (λ b g. ap refusesBlock (sym g)) (λ b g. good-refused tt a g)
