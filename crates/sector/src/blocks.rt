@@ -35,7 +35,7 @@ pub struct Measured {
 }
 
 // What the test of a block gives: it is sound, or what is at fault.
-pub enum Tested {
+enum Tested {
     Sound,
     Faulty(Fault),
 }
