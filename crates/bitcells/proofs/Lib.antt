@@ -7,3 +7,4 @@ pub mod Filled
 pub mod Passed
 pub mod Lent
 pub mod Outcome
+pub mod SecondNumber
