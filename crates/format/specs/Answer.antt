@@ -4,10 +4,10 @@ use Rattle.format.specs.Layout.{homeFirst}
 use Rattle.format.specs.Fault.{Fault, faultNumber}
 use Rattle.format.specs.declared.Answer.{Answer as AnswerCode}
 
--- An answer: the number of its row in the table, the second number, and the place of the fault in bytes after index.
+-- An answer: the number of its row in the table, the second number, and the place that it speaks of, in bytes after index.
 pub record Answer : Type 0 where
   pub number : ℕ
-  -- What is wrong with the block of answers 10 and 11; 0 with all others.
+  -- The second number: what is wrong with the block of answers 10 and 11; 0 with all others.
   pub fault : ℕ
   pub place : ℕ
 

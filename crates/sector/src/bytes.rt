@@ -16,7 +16,7 @@ pub fn byte_at(r: &[u8], i: usize) -> u8
 }
 
 // Whether the check of n information bytes follows them.
-pub fn check_follows(r: &[u8], n: usize) -> bool
+pub(crate) fn check_follows(r: &[u8], n: usize) -> bool
     ensures { λ b. ⌜ b ≡ checkFollows n (now (r .entry)) ⌝ }
 {
     if r.len() < n {
@@ -31,7 +31,7 @@ pub fn check_follows(r: &[u8], n: usize) -> bool
 }
 
 // Whether the closing byte follows them and their check.
-pub fn closing_follows(r: &[u8], n: usize) -> bool
+pub(crate) fn closing_follows(r: &[u8], n: usize) -> bool
     ensures { λ b. ⌜ b ≡ closingFollows n (now (r .entry)) ⌝ }
 {
     if r.len() < n {
@@ -72,14 +72,14 @@ fn starts_with(c: &[u8], opening: &[u8]) -> bool
 }
 
 // Whether the bytes start with an unmarked opening.
-pub fn starts_plain(c: &[u8]) -> bool
+pub(crate) fn starts_plain(c: &[u8]) -> bool
     ensures { λ b. ⌜ b ≡ startsWith plainOpening (now (c .entry)) ⌝ }
 {
     starts_with(c, &PLAIN_OPENING)
 }
 
 // Whether the bytes start with one 00.
-pub fn starts_zero(c: &[u8]) -> bool
+pub(crate) fn starts_zero(c: &[u8]) -> bool
     ensures { λ b. ⌜ b ≡ startsWith (0x00 ∷ []) (now (c .entry)) ⌝ }
 {
     if c.len() == 0 {

@@ -1,5 +1,5 @@
 -- What answers 10 and 11 tell of the lent track: the second number is that of the first part that is wrong in the block at the answer's place.
-use mathlib.Core.Path.{_≡_, refl, sym, subst}
+use mathlib.Core.Path.{_≡_, refl, sym, ap, _∙_, subst}
 use Prim.Native.Nat.{ℕ}
 use mathlib.Core.Bool.{true}
 use mathlib.Core.Logic.{inl, inr}
@@ -14,7 +14,7 @@ use Rattle.format.specs.BlockFault.{FaultOf, SaysFault, refusesBlock}
 use Rattle.format.specs.Find.{find}
 use Rattle.format.specs.Accept.{accept}
 use Rattle.format.proofs.Sector.BlocksJudged.{lengthOf, wrongAt}
-use Rattle.format.proofs.Sector.FaultBytes.{FaultAt}
+use Rattle.format.proofs.Sector.FaultBytes.{FaultAt, fault-same}
 use Rattle.format.proofs.Find.FindParts.{restPlace}
 use Rattle.format.proofs.Faults.FindFault.{find-faulty, faulty-bytes}
 use Rattle.format.proofs.Faults.AcceptFault.{placeIn, restIn, accept-faulty, sector-bytes}
@@ -48,6 +48,16 @@ wrong-tells theKey f q t p r v =
     record { start = p; rest = r; part = f; bytes = v; number-is = refl; fault-says = number-says theKey f (keyLength r) (drop q t) (v .fault) }
 wrong-tells theData f q t p r v =
     record { start = p; rest = r; part = f; bytes = v; number-is = refl; fault-says = number-says theData f (dataLength r) (drop q t) (v .fault) }
+
+-- The second number is exactly that: 1 where the opening is wrong, 2 where the opening is right and the check wrong, 3 where both are right and the closing byte is wrong.
+pub says-exactly : (k : ℕ) (w : Wanted) (n : ℕ) (c : List ℕ) → SaysFault k w n c
+    → (FaultOf w openingWrong n c → k ≡ 1) × (FaultOf w checkWrong n c → k ≡ 2) × (FaultOf w closingWrong n c → k ≡ 3)
+says-exactly k w n c s = (is s openingWrong, is s checkWrong, is s closingWrong)
+  where
+    is : SaysFault k w n c → (f : Fault) → FaultOf w f n c → k ≡ faultNumber f
+    is (inl (e, u)) f v = e ∙ ap faultNumber (fault-same w openingWrong f n c u v)
+    is (inr (inl (e, u))) f v = e ∙ ap faultNumber (fault-same w checkWrong f n c u v)
+    is (inr (inr (e, u))) f v = e ∙ ap faultNumber (fault-same w closingWrong f n c u v)
 
 -- Answers 10 and 11 of Find tell what is wrong with the block asked for.
 pub find-tells : (s : ℕ) (w : Wanted) (t m : List ℕ) (a : Answer) → find s w t m ≡ refused a → refusesBlock a ≡ true → Tells w t a

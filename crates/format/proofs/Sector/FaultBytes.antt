@@ -126,9 +126,16 @@ fault-tested theKey f r v = rw (ne-eqb (keyLength r) 0 (v .0)) (fault-block (key
 fault-tested theData f r (inl v) = rw (eq-eqb (dataLength r) 0 (v .0)) (fault-empty (drop (dataOffset r) r) f (v .1))
 fault-tested theData f r (inr v) = rw (ne-eqb (dataLength r) 0 (v .0)) (fault-block (dataLength r) (drop (dataOffset r) r) f (v .1))
 
--- Only one part is the first that is wrong.
-pub fault-same : (w : Wanted) (f g : Fault) (r : List ℕ) → FaultIn w f r → FaultIn w g r → f ≡ g
-fault-same w f g r u v = let e : faulty f ≡ faulty g = sym (fault-tested w f r u) ∙ fault-tested w g r v in cc
+-- Only one part of a block is the first that is wrong.
+pub fault-same : (w : Wanted) (f g : Fault) (n : ℕ) (c : List ℕ) → FaultOf w f n c → FaultOf w g n c → f ≡ g
+fault-same w f g n c u v = go w u v
+  where
+    go : (y : Wanted) → FaultOf y f n c → FaultOf y g n c → f ≡ g
+    go theKey u v = let e : faulty f ≡ faulty g = sym (fault-block n c f (u .1)) ∙ fault-block n c g (v .1) in cc
+    go theData (inl u) (inl v) = let e : faulty f ≡ faulty g = sym (fault-empty c f (u .1)) ∙ fault-empty c g (v .1) in cc
+    go theData (inl u) (inr v) = absurd (v .0 (u .0))
+    go theData (inr u) (inl v) = absurd (u .0 (v .0))
+    go theData (inr u) (inr v) = let e : faulty f ≡ faulty g = sym (fault-block n c f (u .1)) ∙ fault-block n c g (v .1) in cc
 
 -- A block that is wrong stays so whatever follows it.
 fault-append : (w : Wanted) (f : Fault) (n : ℕ) (c z : List ℕ) → n + 9 ≤ length c → FaultOf w f n c → FaultOf w f n (c ++ z)

@@ -1,5 +1,4 @@
 -- `first_wrong` meets its contract: the two tests in turn.
-use borrow.Author.Needs.{needs}
 use Rattle.sector.proofs.blocks.first_wrong.Statement.{statement}
 use Rattle.sector.proofs.blocks.first_wrong.Tie as tie
 

@@ -1,5 +1,5 @@
 -- `judge_data` meets its contract: the test picks the answer, whose place is where the data block opens.
-use mathlib.Core.Path.{_≡_, sym, ap, ap₂, _∙_}
+use mathlib.Core.Path.{sym, ap, ap₂, _∙_}
 use Prim.Native.Nat.{ℕ, _+_}
 use native.Mathlib.Omega.{arith}
 use Rattle.format.specs.Fault.{Fault, asFault}
