@@ -18,7 +18,7 @@ const WRONG_PROGRAMS: &str = PAGES[1];
 const LINKING: [&str; 2] = ["README.md", "docs/ARCHITECTURE.md"];
 
 /// Words that may stand before the name that a line defines.
-const KEYWORDS: &str = "abbrev unfoldable pub record data extern \"C\" fn const struct enum";
+const KEYWORDS: &str = "abbrev unfoldable pub pub(crate) record data extern \"C\" fn const struct enum";
 
 /// The repository's folder.
 fn repository() -> PathBuf {
@@ -274,7 +274,7 @@ fn no_public_function_requires() {
     for source in sources.iter().filter(|source| source.path.ends_with(".rt")) {
         let mut function = "";
         for line in source.text.lines().map(str::trim_start) {
-            if ["fn ", "pub fn ", "pub extern "]
+            if ["fn ", "pub fn ", "pub(crate) fn ", "pub extern "]
                 .iter()
                 .any(|start| line.starts_with(start))
             {
