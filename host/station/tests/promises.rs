@@ -18,7 +18,8 @@ const WRONG_PROGRAMS: &str = PAGES[1];
 const LINKING: [&str; 2] = ["README.md", "docs/ARCHITECTURE.md"];
 
 /// Words that may stand before the name that a line defines.
-const KEYWORDS: &str = "abbrev unfoldable pub pub(crate) record data extern \"C\" fn const struct enum";
+const KEYWORDS: &str =
+    "abbrev unfoldable pub pub(crate) record data extern \"C\" fn const struct enum";
 
 /// The repository's folder.
 fn repository() -> PathBuf {
