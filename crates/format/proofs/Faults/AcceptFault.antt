@@ -46,16 +46,16 @@ pub record Reached : Type 0 where
   pub span : List ℕ
 
 -- What follows the count's opening in it.
-abbrev pub restIn : Reached → List ℕ
-restIn y = restOf (y .position) (y .span)
+abbrev pub restReached : Reached → List ℕ
+restReached y = restOf (y .position) (y .span)
 
 -- The place from which that follows.
-abbrev pub placeIn : Reached → ℕ
-placeIn y = y .place + openingLength (isFirst (y .position))
+abbrev pub placeReached : Reached → ℕ
+placeReached y = y .place + openingLength (isFirst (y .position))
 
 -- What Accept reads there.
-abbrev pub readIn : Home → Reached → Judged Sector
-readIn h y = readSpan h (y .position) (y .shared) (y .place) (y .last) (y .span)
+abbrev pub readReached : Home → Reached → Judged Sector
+readReached h y = readSpan h (y .position) (y .shared) (y .place) (y .last) (y .span)
 
 -- Of the spans gs, from position i and place p on, Accept comes to y: it is the first of them, or the first reads as a sector and y is among those behind.
 abbrev pub ComesTo : Home → ℕ → Settled → ℕ → List (List ℕ) → Reached → Type 0
@@ -69,15 +69,15 @@ pub record FaultySpan (h : Home) (y : Reached) (w : Wanted) (f : Fault) (q : ℕ
   -- Sector 0's count opens; a later span starts with its opening.
   pub opened : y .position ≡ 0 → startsWith plainOpening (y .span) ≡ true
   -- The count fits its span, passes its check, and its flag, C and H are within the rule.
-  pub count-judged : judgeCount h (y .position) (y .shared) (y .place) (restIn y) ≡ good tt
+  pub count-judged : judgeCount h (y .position) (y .shared) (y .place) (restReached y) ≡ good tt
   -- The blocks and the least gap fit the span.
-  pub fits : blocksFit (y .last) (restIn y) ≡ true
+  pub fits : blocksFit (y .last) (restReached y) ≡ true
   -- Where it is the data that is at fault the key is not.
-  pub key-sound : w ≡ theData → testKey (restIn y) ≡ sound
+  pub key-sound : w ≡ theData → testKey (restReached y) ≡ sound
   -- The block opens at q.
-  pub place-is : q ≡ placeIn y + offsetOf w (restIn y)
+  pub place-is : q ≡ placeReached y + offsetOf w (restReached y)
   -- The part f of it is the first that is wrong.
-  pub fault : FaultIn w f (restIn y)
+  pub fault : FaultIn w f (restReached y)
 
 -- The first sector that Accept refuses on the pair t and m has a key or data at fault: the part f is the first that is wrong in the block that opens at q.
 pub record FaultySector (t m : List ℕ) (w : Wanted) (f : Fault) (q : ℕ) : Type 0 where
@@ -101,11 +101,11 @@ FaultRead h y a = (w : Wanted) × (f : Fault) × (q : ℕ) × (a ≡ wrongAt w f
 
 -- What refuses that which follows the opening is another answer, or a block is at fault.
 sector-refused : (h : Home) (y : Reached) (a : Answer) → (y .position ≡ 0 → startsWith plainOpening (y .span) ≡ true)
-    → judgeSector h (y .position) (y .shared) (y .place) (y .last) (restIn y) ≡ refused a → (refusesBlock a ≡ false) ⊎ FaultRead h y a
+    → judgeSector h (y .position) (y .shared) (y .place) (y .last) (restReached y) ≡ refused a → (refusesBlock a ≡ false) ⊎ FaultRead h y a
 unfolding judgeSector readBlocks
 sector-refused h y a o e =
-    let r : List ℕ = restIn y in
-    let p : ℕ = placeIn y in
+    let r : List ℕ = restReached y in
+    let p : ℕ = placeReached y in
     then-refused (judgeCount h (y .position) (y .shared) (y .place) r) _ a e
     (λ g. inl (other-refused (judgeCount h (y .position) (y .shared) (y .place) r) a (count-other h (y .position) (y .shared) (y .place) r) g))
     (λ _ c d. then-refused (judgeFit (y .place) (y .last) r) _ a d
@@ -146,7 +146,7 @@ faulty-span h (suc i) x p last g w f q v =
 
 -- Spans are refused by what refuses one of them that Accept comes to,
 comes-refused : (h : Home) (i : ℕ) (x : Settled) (p : ℕ) (gs : List (List ℕ)) (a : Answer) → readSpans h i x p gs ≡ refused a
-    → (y : Reached) × ComesTo h i x p gs y × (readIn h y ≡ refused a)
+    → (y : Reached) × ComesTo h i x p gs y × (readReached h y ≡ refused a)
 unfolding readSpans
 comes-refused h i x p [] a e = good-refused {A = List Sector} [] a e
 comes-refused h i x p (g ∷ gs) a e =
@@ -157,11 +157,11 @@ comes-refused h i x p (g ∷ gs) a e =
     (λ ss _ r. good-refused (s ∷ ss) a r))
 
 -- and what refuses one that Accept comes to refuses them.
-refused-comes : (h : Home) (i : ℕ) (x : Settled) (p : ℕ) (gs : List (List ℕ)) (y : Reached) (a : Answer) → ComesTo h i x p gs y → readIn h y ≡ refused a
+refused-comes : (h : Home) (i : ℕ) (x : Settled) (p : ℕ) (gs : List (List ℕ)) (y : Reached) (a : Answer) → ComesTo h i x p gs y → readReached h y ≡ refused a
     → readSpans h i x p gs ≡ refused a
 unfolding readSpans
 refused-comes h i x p [] y a c e = absurd c
-refused-comes h i x p (g ∷ gs) y a (inl z) e = rw (ap (readIn h) (sym z) ∙ e)
+refused-comes h i x p (g ∷ gs) y a (inl z) e = rw (ap (readReached h) (sym z) ∙ e)
 refused-comes h i x p (g ∷ gs) y a (inr (s, k, c)) e = rw (k, refused-comes h (suc i) (settle x s) (p + length g) gs y a c e)
 
 -- The answer a is that of a block at fault in the first sector that Accept refuses.
@@ -206,7 +206,7 @@ faulty-accept t m w f q v =
     let h : Home = v .home in
     let y : Reached = v .reached in
     let a : Answer = wrongAt w f q in
-    let read : readIn h y ≡ refused a = faulty-span h (y .position) (y .shared) (y .place) (y .last) (y .span) w f q (v .faulty) in
+    let read : readReached h y ≡ refused a = faulty-span h (y .position) (y .shared) (y .place) (y .last) (y .span) w f q (v .faulty) in
     rw (v .lent, v .home-judged, v .marks-judged, refused-comes h 0 unsettled (firstCountPlace (h .place)) (spansOf h (cells t m)) y a (v .comes) read)
 
 -- What Accept comes to is the track from its place on, and no mark stands outside its opening.
@@ -221,17 +221,17 @@ comes-at h i x p (g ∷ gs) y c e k (inr (s, r, v)) =
     comes-at h (suc i) (settle x s) (p + length g) gs y c f (and-both (cleanSpan i g) (cleanSpans (suc i) gs) k .1) v
 
 -- Such a block lies in the span of its count, and the bytes of the lent track from q on are those in which the part f is the first that is wrong.
-pub sector-bytes : (t m : List ℕ) (w : Wanted) (f : Fault) (q : ℕ) (v : FaultySector t m w f q) → FaultAt w f t (placeIn (v .reached)) (restIn (v .reached)) q
+pub sector-bytes : (t m : List ℕ) (w : Wanted) (f : Fault) (q : ℕ) (v : FaultySector t m w f q) → FaultAt w f t (placeReached (v .reached)) (restReached (v .reached)) q
 sector-bytes t m w f q v =
     let c : List ℕ = cells t m in
     let p : ℕ = firstCountPlace (v .home .place) in
     let y : Reached = v .reached in
-    let r : List ℕ = restIn y in
+    let r : List ℕ = restReached y in
     let o : ℕ = openingLength (isFirst (y .position)) in
     let k = marks-clean (firstCountEnd (v .home .place)) p c (omega arith) (v .marks-judged) in
     let a = comes-at (v .home) 0 unsettled p (spansOf (v .home) c) y c (sym (joined-spans (drop p c))) (k .1) (v .comes) in
     let l : o ≤ length (y .span) = omega (arith, block-fits w (y .last) r (v .faulty .fits), length-drop o (y .span)) in
-    let e : cells (drop (placeIn y) t) (drop (placeIn y) m) ≡ r ++ a .0 =
-    sym (drop-cells (placeIn y) t m) ∙ sym (drop-drop o (y .place) c) ∙ ap (drop o) (a .1) ∙ drop-append-le o (y .span) (a .0) l in
-    let b : drop (placeIn y) t ≡ r ++ drop (length r) (drop (placeIn y) t) = front-bytes r (a .0) (drop (placeIn y) t) (drop (placeIn y) m) (clean-behind (y .position) (y .span) (a .2)) e in
-    rw (v .faulty .place-is) (fault-at w f (y .last) r t (drop (length r) (drop (placeIn y) t)) (placeIn y) (v .faulty .fits) (v .faulty .fault) b)
+    let e : cells (drop (placeReached y) t) (drop (placeReached y) m) ≡ r ++ a .0 =
+    sym (drop-cells (placeReached y) t m) ∙ sym (drop-drop o (y .place) c) ∙ ap (drop o) (a .1) ∙ drop-append-le o (y .span) (a .0) l in
+    let b : drop (placeReached y) t ≡ r ++ drop (length r) (drop (placeReached y) t) = front-bytes r (a .0) (drop (placeReached y) t) (drop (placeReached y) m) (clean-behind (y .position) (y .span) (a .2)) e in
+    rw (v .faulty .place-is) (fault-at w f (y .last) r t (drop (length r) (drop (placeReached y) t)) (placeReached y) (v .faulty .fits) (v .faulty .fault) b)

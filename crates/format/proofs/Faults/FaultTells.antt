@@ -17,7 +17,7 @@ use Rattle.format.proofs.Sector.BlocksJudged.{lengthOf, wrongAt}
 use Rattle.format.proofs.Sector.FaultBytes.{FaultAt, fault-same}
 use Rattle.format.proofs.Find.FindParts.{restPlace}
 use Rattle.format.proofs.Faults.FindFault.{find-faulty, faulty-bytes}
-use Rattle.format.proofs.Faults.AcceptFault.{placeIn, restIn, accept-faulty, sector-bytes}
+use Rattle.format.proofs.Faults.AcceptFault.{placeReached, restReached, accept-faulty, sector-bytes}
 
 -- The number that refuses the key or the data block.
 abbrev pub numberFor : Wanted → ℕ
@@ -25,7 +25,7 @@ numberFor theKey = 10
 numberFor theData = 11
 
 -- The answer a tells what is wrong with the key or the data block of a count on the track t.
-pub record Tells (w : Wanted) (t : List ℕ) (a : Answer) : Type 0 where
+pub record TellsFault (w : Wanted) (t : List ℕ) (a : Answer) : Type 0 where
   -- What follows the count's opening, and the place from which it follows.
   pub start : ℕ
   pub rest : List ℕ
@@ -43,7 +43,7 @@ number-says w openingWrong n c v = inl (refl, v)
 number-says w checkWrong n c v = inr (inl (refl, v))
 number-says w closingWrong n c v = inr (inr (refl, v))
 
-wrong-tells : (w : Wanted) (f : Fault) (q : ℕ) (t : List ℕ) (p : ℕ) (r : List ℕ) → FaultAt w f t p r q → Tells w t (wrongAt w f q)
+wrong-tells : (w : Wanted) (f : Fault) (q : ℕ) (t : List ℕ) (p : ℕ) (r : List ℕ) → FaultAt w f t p r q → TellsFault w t (wrongAt w f q)
 wrong-tells theKey f q t p r v =
     record { start = p; rest = r; part = f; bytes = v; number-is = refl; fault-says = number-says theKey f (keyLength r) (drop q t) (v .fault) }
 wrong-tells theData f q t p r v =
@@ -60,13 +60,13 @@ says-exactly k w n c s = (is s openingWrong, is s checkWrong, is s closingWrong)
     is (inr (inr (e, u))) f v = e ∙ ap faultNumber (fault-same w closingWrong f n c u v)
 
 -- Answers 10 and 11 of Find tell what is wrong with the block asked for.
-pub find-tells : (s : ℕ) (w : Wanted) (t m : List ℕ) (a : Answer) → find s w t m ≡ refused a → refusesBlock a ≡ true → Tells w t a
+pub find-tells : (s : ℕ) (w : Wanted) (t m : List ℕ) (a : Answer) → find s w t m ≡ refused a → refusesBlock a ≡ true → TellsFault w t a
 find-tells s w t m a e u =
     let (f, q, x, i, v) = find-faulty s w t m a e u in
-    subst (Tells w t) (sym i) (wrong-tells w f q t (restPlace x) (x .rest) (faulty-bytes s w t m f q x v))
+    subst (TellsFault w t) (sym i) (wrong-tells w f q t (restPlace x) (x .rest) (faulty-bytes s w t m f q x v))
 
 -- Those of Accept tell what is wrong with the key or the data block of a sector.
-pub accept-tells : (t m : List ℕ) (a : Answer) → accept t m ≡ refused a → refusesBlock a ≡ true → (w : Wanted) × Tells w t a
+pub accept-tells : (t m : List ℕ) (a : Answer) → accept t m ≡ refused a → refusesBlock a ≡ true → (w : Wanted) × TellsFault w t a
 accept-tells t m a e u =
     let (w, f, q, i, v) = accept-faulty t m a e u in
-    (w, subst (Tells w t) (sym i) (wrong-tells w f q t (placeIn (v .reached)) (restIn (v .reached)) (sector-bytes t m w f q v)))
+    (w, subst (TellsFault w t) (sym i) (wrong-tells w f q t (placeReached (v .reached)) (restReached (v .reached)) (sector-bytes t m w f q v)))
