@@ -5,7 +5,7 @@ use mathlib.Core.List.{List, [], _∷_}
 use lib.ListN.{length, take, drop}
 use lib.Dec.{leb, eqb}
 use Rattle.base.specs.Pick.{pick}
-use Rattle.format.specs.Layout.{plainLength, countToBlock, blockFrame, keyFrame, emptyBlock}
+use Rattle.format.specs.Layout.{plainLength, countToBlock, blockFrame, keyFrame, emptyBlock, closedEmptyBlock}
 use Rattle.format.specs.Opening.{startsWith, plainOpening, checkFollows, closingFollows}
 use Rattle.format.specs.Count.{keyLength, dataLength}
 use Rattle.format.specs.Fault.{openingWrong, checkWrong, closingWrong, Tested, sound, demand}
@@ -22,9 +22,17 @@ keySize n = pick (eqb n 0) 0 (n + keyFrame)
 unfoldable pub dataOffset : List ℕ → ℕ
 dataOffset r = keyOffset + keySize (keyLength r)
 
--- Where the data block that is read ends: behind its opening, information, check and closing byte; if DL = 0 behind the opening and one 00.
+-- What a data block where DL = 0 may go on with: check and closing byte of its 00.
+abbrev pub emptyClosing : List ℕ
+emptyClosing = 0xFF ∷ 0xFF ∷ 0xCC ∷ []
+
+-- What such a block takes at the front of c: ten bytes if FF FF CC stands in c behind the place of the 00, whatever that holds; else seven.
+unfoldable pub emptySize : List ℕ → ℕ
+emptySize c = pick (startsWith emptyClosing (drop emptyBlock c)) closedEmptyBlock emptyBlock
+
+-- Where the data block that is read ends: behind its opening, information, check and closing byte; if DL = 0 behind seven or ten bytes.
 unfoldable pub blockEnd : List ℕ → ℕ
-blockEnd r = dataOffset r + pick (eqb (dataLength r) 0) emptyBlock (dataLength r + blockFrame)
+blockEnd r = dataOffset r + pick (eqb (dataLength r) 0) (emptySize (drop (dataOffset r) r)) (dataLength r + blockFrame)
 
 -- The least gap after the block: 13 where the span runs to index, else 21.
 unfoldable pub leastGap : Bool → ℕ
@@ -57,7 +65,7 @@ testEmpty c =
 unfoldable pub testKey : List ℕ → Tested
 testKey r = pick (eqb (keyLength r) 0) sound (testBlock (keyLength r) (drop keyOffset r))
 
--- The data block; if DL = 0 it is the opening and one 00.
+-- The data block; if DL = 0 its opening and one 00, and no more is looked at.
 unfoldable pub testData : List ℕ → Tested
 testData r =
     let c = drop (dataOffset r) r in

@@ -78,6 +78,10 @@ keyFrame = blockFrame + gapLength
 abbrev pub emptyBlock : ℕ
 emptyBlock = plainLength + 1
 
+-- The same where it goes on with check and closing byte: 10.
+abbrev pub closedEmptyBlock : ℕ
+closedEmptyBlock = emptyBlock + closingLength
+
 -- The gap before home, and all that stands before sector 0's count, on a track that Blank writes: 30 and 55.
 abbrev pub indexGapLength : ℕ
 indexGapLength = 30

@@ -8,6 +8,7 @@ pub mod Address
 pub mod Count
 pub mod Fault
 pub mod Block
+pub mod Gap
 pub mod Blocks
 pub mod Span
 pub mod Sector

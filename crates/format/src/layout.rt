@@ -12,6 +12,9 @@ pub const MARKED_OPENING_MARKS: [u8; 8] = [0, 0, 0, 0, 0, 1, 1, 0];
 // The closing byte.
 pub const CLOSING_BYTE: u8 = 0xCC;
 
+// What a data block where DL = 0 may go on with: check and closing byte of its 00.
+pub const EMPTY_CLOSING: [u8; 3] = [0xFF, 0xFF, 0xCC];
+
 // The least and the greatest L.
 pub const SHORTEST: usize = 3815;
 
@@ -67,6 +70,9 @@ pub const KEY_FRAME: usize = BLOCK_FRAME + GAP;
 
 // The data block where DL = 0: its opening and one 00.
 pub const EMPTY_BLOCK: usize = PLAIN + 1;
+
+// The same where it goes on with check and closing byte.
+pub const CLOSED_EMPTY_BLOCK: usize = EMPTY_BLOCK + CLOSING;
 
 // The gap before home, and all that stands before sector 0's count, on a track that Blank writes.
 pub const INDEX_GAP: usize = 30;

@@ -3,4 +3,5 @@ pub mod Opening
 pub mod Block
 pub mod Field
 pub mod BlocksJudged
+pub mod BlockEnd
 pub mod Measured

@@ -4,13 +4,14 @@ ghost use Prim.Native.Nat.{_+_};
 ghost use Rattle.format.specs.Answer.{asAnswer};
 ghost use Rattle.format.specs.Judged.{answerOf};
 ghost use Rattle.format.specs.Fault.{checkWrong, closingWrong, sound, demand};
-ghost use Rattle.format.specs.Block.{dataOffset, blockEnd, leastGap, blocksFit, testBlock, testEmpty, testKey, testData};
+ghost use Rattle.format.specs.Block.{dataOffset, emptySize, blockEnd, leastGap, blocksFit, testBlock, testEmpty, testKey, testData};
 ghost use Rattle.format.specs.Blocks.{blocksAt, judgeFit};
 ghost use Rattle.format.specs.Sector.{openingLength};
 ghost use Rattle.sector.specs.As.{asTested};
 ghost use Rattle.sector.specs.Measured.{asMeasured, measuredIn};
 use crate::bytes::check_follows;
 use crate::bytes::closing_follows;
+use crate::bytes::starts_empty_closing;
 use crate::bytes::starts_plain;
 use crate::bytes::starts_zero;
 use crate::count::data_length;
@@ -18,6 +19,7 @@ use crate::count::key_length;
 use crate::opening_length;
 use format::Fault;
 use format::layout::BLOCK_FRAME;
+use format::layout::CLOSED_EMPTY_BLOCK;
 use format::layout::COUNT_TO_BLOCK;
 use format::layout::EMPTY_BLOCK;
 use format::layout::KEY_FRAME;
@@ -52,17 +54,33 @@ fn data_offset(r: &[u8]) -> usize
     }
 }
 
+// What a data block where DL = 0 takes at the front of c: ten bytes if FF FF CC stands in c behind the place of the 00, whatever that holds; else seven.
+fn empty_size(c: &[u8]) -> usize
+    ensures { λ n. ⌜ n ≡ emptySize (now (c .entry)) ⌝ }
+{
+    if c.len() < EMPTY_BLOCK {
+        return EMPTY_BLOCK;
+    }
+    if starts_empty_closing(&c[EMPTY_BLOCK..]) {
+        CLOSED_EMPTY_BLOCK
+    } else {
+        EMPTY_BLOCK
+    }
+}
+
 // The offset at which the data block ends.
 fn block_end(r: &[u8]) -> usize
     ensures { λ n. ⌜ n ≡ blockEnd (now (r .entry)) ⌝ }
 {
     let at = data_offset(r);
     let n = data_length(r);
-    if n == 0 {
-        at + EMPTY_BLOCK
-    } else {
-        at + n + BLOCK_FRAME
+    if n != 0 {
+        return at + n + BLOCK_FRAME;
     }
+    if r.len() < at {
+        return at + EMPTY_BLOCK;
+    }
+    at + empty_size(&r[at..])
 }
 
 // The measures of what follows a count's opening.
@@ -146,7 +164,7 @@ fn test_key(r: &[u8]) -> Tested
     test_block(n, &r[KEY_OFFSET..])
 }
 
-// The data block; if DL = 0 it is the opening and one 00.
+// The data block; if DL = 0 its opening and one 00, and no more is looked at.
 fn test_data(r: &[u8]) -> Tested
     ensures { λ t. ⌜ asTested t ≡ testData (now (r .entry)) ⌝ }
 {

@@ -3,9 +3,11 @@ ghost use mathlib.Core.Path.{_≡_};
 ghost use mathlib.Core.List.{[], _∷_};
 ghost use lib.ListN.{getD};
 ghost use Rattle.format.specs.Opening.{startsWith, plainOpening, closedAfter, checkFollows, closingFollows};
+ghost use Rattle.format.specs.Block.{emptyClosing};
 use format::layout::CHECK;
 use format::layout::CLOSING;
 use format::layout::CLOSING_BYTE;
+use format::layout::EMPTY_CLOSING;
 use format::layout::PLAIN_OPENING;
 
 // The byte at i, and 0 past the end.
@@ -76,6 +78,13 @@ pub(crate) fn starts_plain(c: &[u8]) -> bool
     ensures { λ b. ⌜ b ≡ startsWith plainOpening (now (c .entry)) ⌝ }
 {
     starts_with(c, &PLAIN_OPENING)
+}
+
+// Whether the bytes start with FF FF CC, which a data block where DL = 0 may go on with.
+pub(crate) fn starts_empty_closing(c: &[u8]) -> bool
+    ensures { λ b. ⌜ b ≡ startsWith emptyClosing (now (c .entry)) ⌝ }
+{
+    starts_with(c, &EMPTY_CLOSING)
 }
 
 // Whether the bytes start with one 00.

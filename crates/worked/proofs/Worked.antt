@@ -13,16 +13,17 @@ use Rattle.format.specs.Flag.{homeFlagRight, sequenceRight, countFlagRight, nam
 use Rattle.format.specs.Address.{addressIn, addressBytes, addressInRange, sameAddress, addressRight}
 use Rattle.format.specs.Home.{homeFrom, findHome, homeBytes, homeOf, homeFieldsRight, judgeHomeOf, judgeHome}
 use Rattle.format.specs.Count.{countFits, countClosed, countAddressRight, countFieldsRight}
-use Rattle.format.specs.Block.{keySize, dataOffset, blockEnd, leastGap, blocksFit, testBlock, testEmpty, blockInfo, testKey, testData, keyInfo, dataInfo}
+use Rattle.format.specs.Block.{keySize, dataOffset, emptySize, blockEnd, leastGap, blocksFit, testBlock, testEmpty, blockInfo, testKey, testData, keyInfo, dataInfo}
 use Rattle.format.specs.Written.{dataSize, gapOne, countInfo, writtenBlock, writtenKey, writtenData, countOpening, writtenSector, asPair, gapAfter, reach, writtenSpans, writtenBehind}
 use Rattle.format.specs.Span.{unmarkedRun, runsToIndex, spanLength, spanRest, beforeOpening, laterSpans, spans}
 use Rattle.format.specs.Sector.{sectorIn, settle, judgeCount, readBlocks, judgeSector, readSpan, contentRight}
 use Rattle.format.specs.Accept.{judgeMarks, readSpans, placedFrom, among, judgeNumbers, judgeBehind, acceptCells, accept, endOf, fromNumber}
 use Rattle.format.specs.Blank.{namedBy, blankRight, writtenHead, blankSector, blank}
 use Rattle.format.specs.Add.{judgeAbsent, addedFlag, addedSector, addedTo, addCells, add}
+use Rattle.format.specs.Correct.{withContent, rewrittenFrom, correctCells}
 use Rattle.base.proofs.Tests.{and-both}
-use Rattle.worked.specs.Tracks.{address, blankOf, twoSectors, acceptOf, numbers, placesIn, places, placesOf, sectorOf, byHand, answerByHand, answerOfZeros, threeByHand, spoiledAt, answerSpoiled}
-use Rattle.worked.specs.Table.{Case, sameNumbers, allHold, EachHolds, starred, further, faults}
+use Rattle.worked.specs.Tracks.{address, blankOf, twoSectors, acceptOf, numbers, placesIn, places, placesOf, sectorOf, byHand, answerByHand, answerOfZeros, threeByHand, spoiledAt, answerSpoiled, closedGap, gapsByHand, placesByHand, answerWithoutZero, endIn, cellsOf, addedBehind, laidOutAfresh}
+use Rattle.worked.specs.Table.{Case, sameNumbers, allHold, EachHolds, starred, further, faults, emptyBlocks}
 use Rattle.format.specs.Blocks.{partAt, blocksAt, judgeFit}
 
 same-equal : (xs ys : List ℕ) → sameNumbers xs ys ≡ true → xs ≡ ys
@@ -42,30 +43,38 @@ each-holds (x ∷ cs) e =
     let h = and-both (sameNumbers (x .computed) (x .stated)) (allHold cs) e in
     (same-equal (x .computed) (x .stated) (h .0), each-holds cs (h .1))
 
-tables-pass : (allHold starred && (allHold further && allHold faults)) ≡ true
+tables-pass : (allHold starred && (allHold further && (allHold faults && allHold emptyBlocks))) ≡ true
 unfolding digits coefficients divisor bringDown remainder checkBytes
     lengthRight marksLegal lentForWriting lentForReading cells bytesOf marksOf opens closing closedAfter
     homeFlagRight sequenceRight countFlagRight namesItself addressIn addressBytes addressInRange sameAddress addressRight
     homeFrom findHome homeBytes homeOf homeFieldsRight judgeHomeOf judgeHome countFits countClosed countAddressRight countFieldsRight
-    keySize dataSize dataOffset blockEnd leastGap blocksFit checkFollows closingFollows testBlock testEmpty blockInfo testKey testData keyInfo dataInfo partAt blocksAt judgeFit
+    keySize dataSize dataOffset emptySize blockEnd leastGap blocksFit checkFollows closingFollows testBlock testEmpty blockInfo testKey testData keyInfo dataInfo partAt blocksAt judgeFit
     unmarkedRun runsToIndex spanLength spanRest beforeOpening laterSpans spans sectorIn settle judgeCount readBlocks judgeSector readSpan
     judgeMarks readSpans placedFrom among judgeNumbers judgeBehind acceptCells accept
     gapOne countInfo writtenBlock writtenKey writtenData countOpening writtenSector asPair gapAfter reach writtenSpans writtenBehind
-    contentRight namedBy blankRight writtenHead blankSector blank bothLent endOf fromNumber judgeAbsent addedFlag addedSector addedTo addCells add
-    address blankOf twoSectors acceptOf numbers placesIn places placesOf sectorOf byHand answerByHand answerOfZeros threeByHand spoiledAt answerSpoiled sameNumbers allHold starred further faults
+    contentRight namedBy blankRight writtenHead blankSector blank bothLent endOf fromNumber judgeAbsent addedFlag addedSector addedTo addCells add withContent rewrittenFrom correctCells
+    address blankOf twoSectors acceptOf numbers placesIn places placesOf sectorOf byHand answerByHand answerOfZeros threeByHand spoiledAt answerSpoiled
+    closedGap gapsByHand placesByHand answerWithoutZero endIn cellsOf addedBehind laidOutAfresh sameNumbers allHold starred further faults emptyBlocks
 tables-pass = refl
 
 -- The starred worked numbers.
 pub starred-hold : EachHolds starred
-starred-hold = each-holds starred (and-both (allHold starred) (allHold further && allHold faults) tables-pass .0)
+starred-hold = each-holds starred (and-both (allHold starred) _ tables-pass .0)
 
-others-pass : (allHold further ≡ true) × (allHold faults ≡ true)
-others-pass = and-both (allHold further) (allHold faults) (and-both (allHold starred) (allHold further && allHold faults) tables-pass .1)
+others-pass : (allHold further && (allHold faults && allHold emptyBlocks)) ≡ true
+others-pass = and-both (allHold starred) _ tables-pass .1
 
 -- Those of the numbers 6 to 8 that have no star.
 pub further-hold : EachHolds further
-further-hold = each-holds further (others-pass .0)
+further-hold = each-holds further (and-both (allHold further) _ others-pass .0)
+
+blocks-pass : (allHold faults ≡ true) × (allHold emptyBlocks ≡ true)
+blocks-pass = and-both (allHold faults) (allHold emptyBlocks) (and-both (allHold further) _ others-pass .1)
 
 -- The table of the second number.
 pub faults-hold : EachHolds faults
-faults-hold = each-holds faults (others-pass .1)
+faults-hold = each-holds faults (blocks-pass .0)
+
+-- The table of the data block where DL = 0.
+pub empty-blocks-hold : EachHolds emptyBlocks
+empty-blocks-hold = each-holds emptyBlocks (blocks-pass .1)

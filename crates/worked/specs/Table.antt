@@ -1,13 +1,15 @@
--- The worked numbers as one table: what the definitions compute beside what the scope document states; and a table of the second number.
+-- The worked numbers as one table: what the definitions compute beside what the scope document states; and tables of the second number and of the data block without information.
 use mathlib.Core.Path.{_≡_}
 use Prim.Native.Nat.{ℕ}
 use mathlib.Core.Bool.{Bool, true, false, _&&_}
-use mathlib.Core.List.{List, [], _∷_}
+use mathlib.Core.List.{List, [], _∷_, _++_}
+use lib.ListN.{replicate}
 use lib.Dec.{eqb}
 use Rattle.crc.specs.Check.{checkBytes}
 use Rattle.format.specs.Judged.{answerOf}
+use Rattle.format.specs.Opening.{closing}
 use Rattle.format.specs.Address.{addressBytes}
-use Rattle.worked.specs.Tracks.{address, blankOf, twoSectors, acceptOf, numbers, placesOf, answerByHand, answerOfZeros, answerSpoiled}
+use Rattle.worked.specs.Tracks.{address, blankOf, twoSectors, acceptOf, numbers, placesOf, answerByHand, answerOfZeros, answerSpoiled, closedGap, placesByHand, answerWithoutZero, endIn, addedBehind, laidOutAfresh}
 
 -- A row of the table.
 pub record Case : Type 0 where
@@ -88,4 +90,30 @@ faults =
     ∷ record { computed = answerSpoiled (158 ∷ 164 ∷ []); stated = 10 ∷ 1 ∷ 153 ∷ [] }
     ∷ record { computed = answerSpoiled (188 ∷ 185 ∷ 181 ∷ []); stated = 11 ∷ 1 ∷ 176 ∷ [] }
     ∷ record { computed = answerSpoiled (164 ∷ 176 ∷ []); stated = 10 ∷ 3 ∷ 153 ∷ [] }
+    ∷ []
+
+-- The data block where DL = 0 may go on: what with; a gap of 21 without FF FF CC, and gaps of 21, 23 and 24 that start with it; the same at index with 13, 15 and 16; FF FF CC twice; with DL = 1 it is
+-- gap; with a wrong 00, too short and long enough; three, two, one and none of the three bytes in the span.
+-- Then a sector behind such blocks of ten and of seven bytes, and one of ten bytes that is laid out afresh.
+unfoldable pub emptyBlocks : List Case
+emptyBlocks =
+    record { computed = closing (0x00 ∷ []); stated = 0xFF ∷ 0xFF ∷ 0xCC ∷ [] }
+    ∷ record { computed = placesByHand 0 (replicate 21 0xFF) (replicate 13 0xFF); stated = 55 ∷ 84 ∷ 84 ∷ 91 ∷ 112 ∷ 112 ∷ 143 ∷ 143 ∷ 150 ∷ 171 ∷ [] }
+    ∷ record { computed = placesByHand 0 (closedGap 18) (replicate 13 0xFF); stated = 9 ∷ 55 ∷ [] }
+    ∷ record { computed = placesByHand 0 (closedGap 20) (replicate 13 0xFF); stated = 9 ∷ 55 ∷ [] }
+    ∷ record { computed = placesByHand 0 (closedGap 21) (replicate 13 0xFF); stated = 55 ∷ 84 ∷ 84 ∷ 94 ∷ 115 ∷ 115 ∷ 146 ∷ 146 ∷ 153 ∷ 174 ∷ [] }
+    ∷ record { computed = placesByHand 0 (replicate 21 0xFF) (closedGap 10); stated = 9 ∷ 112 ∷ [] }
+    ∷ record { computed = placesByHand 0 (replicate 21 0xFF) (closedGap 12); stated = 9 ∷ 112 ∷ [] }
+    ∷ record { computed = placesByHand 0 (replicate 21 0xFF) (closedGap 13); stated = 55 ∷ 84 ∷ 84 ∷ 91 ∷ 112 ∷ 112 ∷ 143 ∷ 143 ∷ 153 ∷ 174 ∷ [] }
+    ∷ record { computed = placesByHand 0 (closedGap 0 ++ closedGap 18) (replicate 13 0xFF); stated = 55 ∷ 84 ∷ 84 ∷ 94 ∷ 115 ∷ 115 ∷ 146 ∷ 146 ∷ 153 ∷ 174 ∷ [] }
+    ∷ record { computed = placesByHand 1 (closedGap 18) (replicate 13 0xFF); stated = 55 ∷ 84 ∷ 84 ∷ 94 ∷ 115 ∷ 115 ∷ 146 ∷ 146 ∷ 153 ∷ 174 ∷ [] }
+    ∷ record { computed = answerWithoutZero (closedGap 18); stated = 9 ∷ 0 ∷ 55 ∷ [] }
+    ∷ record { computed = answerWithoutZero (closedGap 21); stated = 11 ∷ 2 ∷ 84 ∷ [] }
+    ∷ record { computed = endIn 33; stated = 33 ∷ [] }
+    ∷ record { computed = endIn 32; stated = 30 ∷ [] }
+    ∷ record { computed = endIn 31; stated = 30 ∷ [] }
+    ∷ record { computed = endIn 30; stated = 30 ∷ [] }
+    ∷ record { computed = addedBehind (closedGap 100); stated = 0x00 ∷ 0x00 ∷ 0x00 ∷ 0x00 ∷ 0xFF ∷ 0x0E ∷ 0x00 ∷ 0xFF ∷ 0xFF ∷ 0xCC ∷ (replicate 21 0xFF ++ replicate 4 0x00) }
+    ∷ record { computed = addedBehind (0xFF ∷ 0xFF ∷ replicate 100 0xA5); stated = 0x00 ∷ 0x00 ∷ 0x00 ∷ 0x00 ∷ 0xFF ∷ 0x0E ∷ 0x00 ∷ (replicate 21 0xFF ++ (replicate 4 0x00 ++ 0xFF ∷ 0x1FF ∷ 0x1FF ∷ [])) }
+    ∷ record { computed = laidOutAfresh (closedGap 21); stated = 0x00 ∷ 0x00 ∷ 0x00 ∷ 0x00 ∷ 0xFF ∷ 0x0E ∷ 0x00 ∷ (replicate 21 0xFF ++ replicate 4 0x00) }
     ∷ []

@@ -1,17 +1,18 @@
 -- The tracks of the worked numbers, and what the table reads off them.
-use Prim.Native.Nat.{ℕ, _+_}
+use Prim.Native.Nat.{ℕ, _+_, _-_}
 use mathlib.Core.Bool.{Bool, true, false}
 use mathlib.Core.List.{List, [], _∷_, _++_}
 use lib.ListN.{length, take, drop, replicate}
 use Rattle.format.specs.Answer.{Answer}
 use Rattle.format.specs.Judged.{Judged, good, refused, then, answerOf}
 use Rattle.format.specs.Address.{Address, addressBytes}
-use Rattle.format.specs.Block.{keyOffset, dataOffset}
+use Rattle.format.specs.Block.{keyOffset, dataOffset, emptyClosing, blockEnd}
 use Rattle.format.specs.Sector.{Sector, openingLength}
 use Rattle.format.specs.Accept.{Placed, Accepted, acceptCells, accept, endOf}
 use Rattle.format.specs.Written.{Pair, gapOne, homeGap, writtenBlock, writtenSector}
 use Rattle.format.specs.Blank.{blank}
-use Rattle.format.specs.Add.{add}
+use Rattle.format.specs.Add.{addCells, add}
+use Rattle.format.specs.Correct.{correctCells}
 
 -- Cylinder c and head h.
 unfoldable pub address : ℕ → ℕ → Address
@@ -95,3 +96,42 @@ spoiledAt (p ∷ ps) c = spoiledAt ps (take p c ++ (0xA5 ∷ drop (p + 1) c))
 -- Number, second number and place of Accept's answer for that track spoiled at these places.
 unfoldable pub answerSpoiled : List ℕ → List ℕ
 answerSpoiled ps = let a : Answer = answerOf (acceptCells (spoiledAt ps threeByHand)) in a .number ∷ a .fault ∷ a .place ∷ []
+
+-- FF FF CC and n bytes FF behind it.
+unfoldable pub closedGap : ℕ → List ℕ
+closedGap n = emptyClosing ++ replicate n 0xFF
+
+-- A short track by hand: home at 30; sector 0 without a key and with n bytes of data, whose block opens at 84, and the gap y; sector 1 without a key and without data, and the gap z
+-- to index.
+unfoldable pub gapsByHand : ℕ → List ℕ → List ℕ → List ℕ
+gapsByHand n y z =
+    let a : Address = address 100 7 in
+    replicate 30 0x00
+    ++ ((writtenBlock (0x00 ∷ addressBytes a) ++ homeGap)
+    ++ ((writtenSector (sectorOf true 0x00 a 0 n) ++ y)
+    ++ (writtenSector (sectorOf false 0x80 a 1 0) ++ z)))
+
+-- The places of its sectors, or the answer that refuses it.
+unfoldable pub placesByHand : ℕ → List ℕ → List ℕ → List ℕ
+placesByHand n y z = placesOf (acceptCells (gapsByHand n y z))
+
+-- Number, second number and place of Accept's answer for the track without data and with the gap y, spoiled at the place of sector 0's 00.
+unfoldable pub answerWithoutZero : List ℕ → List ℕ
+answerWithoutZero y = let a : Answer = answerOf (acceptCells (spoiledAt (90 ∷ []) (gapsByHand 0 y (replicate 13 0xFF)))) in a .number ∷ a .fault ∷ a .place ∷ []
+
+-- Where the block of that sector 0 ends behind its count's opening, if only n bytes behind the opening lie in its span; the gap starts with FF FF CC.
+unfoldable pub endIn : ℕ → List ℕ
+endIn n = blockEnd (take n (drop 61 (gapsByHand 0 (closedGap 21) (replicate 13 0xFF)))) ∷ []
+
+-- The cells from place p to place q that an outcome has, or its answer.
+unfoldable pub cellsOf : ℕ → ℕ → Judged (List ℕ) → List ℕ
+cellsOf p q (good c) = take (q - p) (drop p c)
+cellsOf p q (refused a) = numbers a
+
+-- The cells from 143 to 178 after a sector was added to the track without data and with the gap z at index: the block of sector 1, its gap, and what follows.
+unfoldable pub addedBehind : List ℕ → List ℕ
+addedBehind z = cellsOf 143 178 (addCells gapOne (gapsByHand 0 (replicate 21 0xFF) z) 0 2 [] [])
+
+-- The cells from 84 to 116 after sector 0 of the track without data and with the gap y got no data anew: its block, its gap, and what follows.
+unfoldable pub laidOutAfresh : List ℕ → List ℕ
+laidOutAfresh y = cellsOf 84 116 (correctCells gapOne (gapsByHand 0 y (replicate 13 0xFF)) 0 [] [])

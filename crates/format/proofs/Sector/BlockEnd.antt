@@ -1,18 +1,39 @@
 -- The end of the data block that is read: its bounds, that no byte behind it matters to it, and that a written block reads back with it.
-use mathlib.Core.Path.{_≡_, refl}
-use Prim.Native.Nat.{ℕ, _+_, _≤_, _<_}
+use mathlib.Core.Path.{_≡_, refl, sym, ap, _∙_}
+use Prim.Native.Nat.{ℕ, zero, suc, _+_, _≤_, _<_}
 use native.Mathlib.Omega.{arith}
-use mathlib.Core.Bool.{Bool, true, false}
-use mathlib.Core.List.{List, _++_}
-use lib.ListN.{length, drop, getD}
-use lib.Dec.{eqb}
-use borrow.Author.Tests.{leb-true, eqb-true}
+use mathlib.Core.Bool.{Bool, true, false, _&&_}
+use mathlib.Core.List.{List, [], _∷_, _++_, append-nil}
+use lib.ListN.{length, drop, replicate, getD}
+use lib.Seq.{drop-at, drop-drop}
+use lib.Dec.{eqb, eqb·suc-zero}
+use borrow.Author.Tests.{leb-true, eqb-true, eq-eqb, ne-eqb}
+use Rattle.base.specs.Pick.{pick}
+use Rattle.format.specs.Opening.{startsWith}
 use Rattle.format.specs.Count.{keyLength, dataLength}
-use Rattle.format.specs.Block.{keyOffset, keySize, dataOffset, blockEnd, leastGap, blocksFit}
+use Rattle.format.specs.Block.{keyOffset, keySize, dataOffset, emptyClosing, emptySize, blockEnd, leastGap, blocksFit}
+use Rattle.format.specs.Gap.{takenFrom}
 use Rattle.format.specs.Written.{writtenData, dataSize}
-use Rattle.base.proofs.Tests.{cases}
-use Rattle.format.proofs.Cells.Local.{byte-local}
+use Rattle.base.proofs.Tests.{cases, and-right}
+use Rattle.format.proofs.Cells.Local.{byte-local, starts-local}
 use Rattle.format.proofs.Sector.Sizes.{key-size-least, key-size-most}
+
+-- A data block where DL = 0 takes at least seven bytes,
+empty-least : (c : List ℕ) → 7 ≤ emptySize c
+unfolding emptySize
+empty-least c = cases (startsWith emptyClosing (drop 7 c)) (λ e. rw e (omega arith)) (λ e. rw e (omega arith))
+
+-- and at most ten.
+pub empty-most : (c : List ℕ) → emptySize c ≤ 10
+unfolding emptySize
+empty-most c = cases (startsWith emptyClosing (drop 7 c)) (λ e. rw e (omega arith)) (λ e. rw e (omega arith))
+
+-- A gap of FF does not start with FF FF CC.
+pub filled-open : (m : ℕ) → startsWith emptyClosing (replicate m 0xFF) ≡ false
+filled-open zero = refl
+filled-open (suc zero) = refl
+filled-open (suc (suc zero)) = refl
+filled-open (suc (suc (suc m))) = refl
 
 -- What follows a count's opening.
 module _ (r : List ℕ) where
@@ -37,7 +58,10 @@ module _ (r : List ℕ) where
   -- Its opening and information lie before its end, and one byte more.
   pub data-in-end : dataOffset r + dataLength r + 7 ≤ blockEnd r
   unfolding blockEnd
-  data-in-end = cases (eqb (dataLength r) 0) (λ e. rw e (omega (arith, eqb-true (dataLength r) 0 e))) (λ e. rw e (omega arith))
+  data-in-end =
+      cases (eqb (dataLength r) 0)
+      (λ e. rw e (omega (arith, eqb-true (dataLength r) 0 e, empty-least (drop (dataOffset r) r))))
+      (λ e. rw e (omega arith))
 
   -- So do its check and closing byte, where DL > 0.
   pub block-in-end : eqb (dataLength r) 0 ≡ false → dataOffset r + dataLength r + 9 ≤ blockEnd r
@@ -47,22 +71,25 @@ module _ (r : List ℕ) where
   -- It takes no less than a written block with as much information.
   pub written-in-end : dataOffset r + dataSize (dataLength r) ≤ blockEnd r
   unfolding blockEnd dataSize
-  written-in-end = omega arith
+  written-in-end = cases (eqb (dataLength r) 0) (λ e. rw e (omega (arith, empty-least (drop (dataOffset r) r)))) (λ e. rw e (omega arith))
 
   -- It ends within 65,844 bytes.
   pub end-lt : getD r 6 0 < 256 → getD r 7 0 < 256 → getD r 8 0 < 256 → blockEnd r < 65844
   unfolding blockEnd
-  end-lt h k l = cases (eqb (dataLength r) 0) (λ e. rw e (omega (arith, offset-lt h))) (λ e. rw e (omega (arith, offset-lt h)))
+  end-lt h k l =
+      cases (eqb (dataLength r) 0) (λ e. rw e (omega (arith, offset-lt h, empty-most (drop (dataOffset r) r)))) (λ e. rw e (omega (arith, offset-lt h)))
 
   -- Blocks that fit end before the least gap.
   pub end-in-span : (last : Bool) → blocksFit last r ≡ true → blockEnd r + leastGap last ≤ length r
   unfolding blocksFit
   end-in-span last e = leb-true (blockEnd r + leastGap last) (length r) e
 
-  -- Where a written data block stands at its offset, it ends where that block does.
-  pub end-written : (d R : List ℕ) → dataLength r ≡ length d → drop (dataOffset r) r ≡ writtenData d ++ R → blockEnd r ≡ dataOffset r + dataSize (length d)
-  unfolding blockEnd dataSize
-  end-written d R e w = rw e
+  -- Where a written data block stands at its offset, and FF FF CC does not follow, it ends where that block does.
+  pub end-written : (d R : List ℕ) → dataLength r ≡ length d → drop (dataOffset r) r ≡ writtenData d ++ R → startsWith emptyClosing R ≡ false
+      → blockEnd r ≡ dataOffset r + dataSize (length d)
+  unfolding blockEnd dataSize emptySize writtenData
+  end-written [] R e w f = rw (e, w, f)
+  end-written (x ∷ xs) R e w f = rw (e, eqb·suc-zero (length xs))
 
 -- The blocks end within xs: what follows xs does not matter to the count and to the end.
 module _ (xs ys zs : List ℕ) (ends : blockEnd (xs ++ ys) ≤ length xs) where
@@ -87,7 +114,43 @@ module _ (xs ys zs : List ℕ) (ends : blockEnd (xs ++ ys) ≤ length xs) where
   unfolding dataOffset
   offset-same = rw key-length-same
 
-  -- Where it ends.
-  pub end-same : blockEnd (xs ++ zs) ≡ blockEnd (xs ++ ys)
-  unfolding blockEnd
-  end-same = rw (offset-same, data-length-same)
+-- The same of its own lengths, and of xs alone.
+module _ (xs ys zs : List ℕ) (ends : blockEnd (xs ++ ys) ≤ length xs) where
+  length-alone : dataLength (xs ++ zs) ≡ dataLength xs
+  length-alone = data-length-same xs ys zs ends ∙ sym (data-length-same xs ys [] ends) ∙ ap dataLength (append-nil xs)
+
+  offset-alone : dataOffset (xs ++ zs) ≡ dataOffset xs
+  offset-alone = offset-same xs ys zs ends ∙ sym (offset-same xs ys [] ends) ∙ ap dataOffset (append-nil xs)
+
+-- A data block where DL = 0, which opens at o and ends with xs, takes three bytes from what follows if it has seven in xs and FF FF CC follows.
+empty-taken : (xs ys zs : List ℕ) (o : ℕ) → o + emptySize (drop o (xs ++ ys)) ≡ length xs
+    → o + emptySize (drop o (xs ++ zs)) ≡ length xs + pick (eqb (length xs) (o + 7) && startsWith emptyClosing zs) 3 0
+unfolding emptySize
+empty-taken xs ys zs o e =
+    cases (startsWith emptyClosing (drop 7 (drop o (xs ++ ys))))
+    (λ t.
+    let l : o + 10 ≡ length xs = rw t at e in
+    let here : startsWith emptyClosing (drop 7 (drop o (xs ++ zs))) ≡ true =
+    ap (startsWith emptyClosing) (drop-drop 7 o (xs ++ zs)) ∙ starts-local xs ys zs emptyClosing (o + 7) (omega arith)
+    ∙ sym (ap (startsWith emptyClosing) (drop-drop 7 o (xs ++ ys))) ∙ t in
+    rw (here, ne-eqb (length xs) (o + 7) (λ q. omega arith)) (omega arith))
+    (λ f.
+    let l : o + 7 ≡ length xs = rw f at e in
+    let behind : drop 7 (drop o (xs ++ zs)) ≡ zs = drop-drop 7 o (xs ++ zs) ∙ drop-at xs zs (o + 7) (sym l) in
+    rw (behind, eq-eqb (length xs) (o + 7) (sym l)) (cases (startsWith emptyClosing zs) (λ t. rw t (omega arith)) (λ t. rw t (omega arith))))
+
+-- Where xs ends with the block, whatever follows it there, the block ends with xs whatever follows, but for the bytes that it takes from that.
+pub end-taken : (xs ys zs : List ℕ) → blockEnd (xs ++ ys) ≡ length xs → blockEnd (xs ++ zs) ≡ length xs + takenFrom xs zs
+unfolding blockEnd takenFrom
+end-taken xs ys zs ends =
+    let l : blockEnd (xs ++ ys) ≤ length xs = omega arith in
+    let before = rw (length-alone xs ys ys l, offset-alone xs ys ys l) at ends in
+    rw (length-alone xs ys zs l, offset-alone xs ys zs l)
+    (cases (eqb (dataLength xs) 0)
+    (λ e. rw e (empty-taken xs ys zs (dataOffset xs) (rw e at before)))
+    (λ e. rw e (omega (arith, rw e at before))))
+
+-- So it does where a gap of FF follows.
+pub taken-filled : (xs : List ℕ) (m : ℕ) → takenFrom xs (replicate m 0xFF) ≡ 0
+unfolding takenFrom
+taken-filled xs m = rw (and-right (eqb (dataLength xs) 0) (and-right (eqb (length xs) (dataOffset xs + 7)) (filled-open m)))

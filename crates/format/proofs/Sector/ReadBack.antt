@@ -12,7 +12,7 @@ use Rattle.format.specs.Lent.{unmarked}
 use Rattle.format.specs.Opening.{startsWith, plainOpening, opens}
 use Rattle.format.specs.Home.{Home}
 use Rattle.format.specs.Count.{Settled, unsettled, settled, countFieldsRight}
-use Rattle.format.specs.Block.{leastGap}
+use Rattle.format.specs.Block.{emptyClosing, leastGap}
 use Rattle.format.specs.Span.{laterSpans, cleanSpan}
 use Rattle.format.specs.Sector.{Sector, openingLength, isFirst, sectorIn, readSpan, settle, contentRight}
 use Rattle.format.specs.Written.{countOpening, writtenSector, sectorSize}
@@ -24,6 +24,7 @@ use Rattle.format.proofs.Cells.Opening.{unmarked-replicate}
 use Rattle.format.proofs.Spans.Cutting.{later-unmarked, later-opening}
 use Rattle.format.proofs.Spans.SpanAgrees.{clean-behind}
 use Rattle.format.proofs.Sector.Valid.{info-unmarked, info-fits, sector-valid}
+use Rattle.format.proofs.Sector.BlockEnd.{filled-open}
 use Rattle.format.proofs.Sector.WrittenRest.{writtenRest, written-form, length-rest, rest-flag, rest-address, rest-fits, rest-closed, rest-blocks-fit, rest-key-right, rest-data-right, rest-sector, rest-unmarked}
 
 length-opening : (first : Bool) → length (countOpening first) ≡ openingLength first
@@ -56,16 +57,16 @@ unfolding countOpening
 first-opened zero r e = refl
 first-opened (suc i) r e = absurd (omega arith)
 
-rest-read : (h : Home) (i : ℕ) (x : Settled) (last : Bool) (s : Sector) (R : List ℕ) → Valid h i x s → leastGap last ≤ length R
+rest-read : (h : Home) (i : ℕ) (x : Settled) (last : Bool) (s : Sector) (R : List ℕ) → Valid h i x s → startsWith emptyClosing R ≡ false → leastGap last ≤ length R
     → ReadAs h i x last (countOpening (isFirst i) ++ writtenRest s R) s
-rest-read h i x last s R v l =
+rest-read h i x last s R v f l =
     let e = behind-written i (writtenRest s R) in
     record {
       opened = first-opened i (writtenRest s R);
       count-fits = rw e (rest-fits s R);
       count-closed = rw e (rest-closed s R);
       fields-right = rw e (rest-fields h i x s R v);
-      blocks-fit = rw e (rest-blocks-fit last s R l);
+      blocks-fit = rw e (rest-blocks-fit last s R f l);
       key-right = rw e (rest-key-right s R);
       data-right = rw e (rest-data-right s R);
       sector-is = rw e (rest-sector s R ∙ ap (λ (b : Bool). sectorIn b (writtenRest s R)) (v .position));
@@ -76,7 +77,7 @@ pub read-written : (h : Home) (i : ℕ) (x : Settled) (p : ℕ) (last : Bool) (s
     → readSpan h i x p last (writtenSector s ++ replicate m 0xFF) ≡ good s
 read-written h i x p last s m v l =
     read-make h i x p last (writtenSector s ++ replicate m 0xFF) s
-    (rw (written-at i s (replicate m 0xFF) (v .position)) (rest-read h i x last s (replicate m 0xFF) v (rw length-replicate l)))
+    (rw (written-at i s (replicate m 0xFF) (v .position)) (rest-read h i x last s (replicate m 0xFF) v (filled-open m) (rw length-replicate l)))
 
 rest-bytes : (h : Home) (i : ℕ) (x : Settled) (s : Sector) (m : ℕ) → Valid h i x s → unmarked (writtenRest s (replicate m 0xFF)) ≡ true
 rest-bytes h i x s m v = rest-unmarked s (replicate m 0xFF) (v .count-bytes) (v .key-bytes) (v .data-bytes) (unmarked-replicate m 0xFF (lit< tt))

@@ -8,7 +8,7 @@ use native.Mathlib.Omega.{arith}
 use Rattle.base.specs.Pick.{pick}
 use Rattle.format.specs.Answer.{firstCountMissing, countCheckWrong, countFieldsWrong, spanTooShort}
 use Rattle.format.specs.Fault.{sound}
-use Rattle.format.specs.Judged.{good}
+use Rattle.format.specs.Judged.{good, refused}
 use Rattle.format.specs.Opening.{startsWith, plainOpening}
 use Rattle.format.specs.Home.{Home}
 use Rattle.format.specs.Count.{Settled, keyLength, dataLength, countFits, countClosed, countFieldsRight}
@@ -109,6 +109,15 @@ read-make h zero x p last g s v =
 read-make h (suc i) x p last g s v =
     rw (count-make h (suc i) x p (drop 8 g) (v .count-fits) (v .count-closed) (v .fields-right))
     (blocks-make false p last (drop 8 g) s (v .blocks-fit) (v .key-right) (v .data-right) (v .sector-is))
+
+-- A span whose count is right, and in which the blocks and the least gap do not fit, is refused by 9.
+pub read-short : (h : Home) (i : ℕ) (x : Settled) (p : ℕ) (last : Bool) (g : List ℕ) → (i ≡ 0 → startsWith plainOpening g ≡ true)
+    → countFits (restOf i g) ≡ true → countClosed (restOf i g) ≡ true → countFieldsRight h i x (restOf i g) ≡ true → blocksFit last (restOf i g) ≡ false
+    → readSpan h i x p last g ≡ refused (spanTooShort p)
+unfolding readSpan judgeSector readBlocks judgeFit
+read-short h zero x p last g o a b c f =
+    require-holds (startsWith plainOpening g) (firstCountMissing p) _ (refused (spanTooShort p)) (o refl) (rw (count-make h 0 x p (drop 6 g) a b c, f))
+read-short h (suc i) x p last g o a b c f = rw (count-make h (suc i) x p (drop 8 g) a b c, f)
 
 -- What reading tells of lengths: the blocks and the least gap lie in the span, and the key and the data are as long as the count says.
 pub record Lengths (i : ℕ) (last : Bool) (g : List ℕ) (s : Sector) : Type 0 where

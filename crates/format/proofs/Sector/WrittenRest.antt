@@ -2,7 +2,7 @@
 use mathlib.Core.Path.{_≡_, refl, sym, ap, _∙_}
 use Prim.Native.Nat.{ℕ, _+_, _≤_}
 use native.Mathlib.Nat.{div-add-mod'}
-use mathlib.Core.Bool.{Bool, true}
+use mathlib.Core.Bool.{Bool, true, false}
 use mathlib.Core.List.{List, _++_, append-assoc}
 use lib.ListN.{length, drop, length-append}
 use lib.Seq.{drop-at}
@@ -10,11 +10,11 @@ use native.Mathlib.Omega.{arith}
 use borrow.Author.Tests.{le-leb}
 use Rattle.crc.specs.Check.{checkBytes}
 use Rattle.format.specs.Lent.{unmarked}
-use Rattle.format.specs.Opening.{closing}
+use Rattle.format.specs.Opening.{startsWith, closing}
 use Rattle.format.specs.Address.{addressIn, addressBytes}
 use Rattle.format.specs.Count.{countFlag, countNumber, keyLength, dataLength, countFits, countClosed}
 use Rattle.format.specs.Fault.{sound}
-use Rattle.format.specs.Block.{keySize, dataOffset, blockEnd, leastGap, blocksFit, testKey, testData, keyInfo, dataInfo}
+use Rattle.format.specs.Block.{keySize, dataOffset, emptyClosing, blockEnd, leastGap, blocksFit, testKey, testData, keyInfo, dataInfo}
 use Rattle.format.specs.Written.{dataSize, innerGap, countInfo, writtenKey, writtenData, countOpening, writtenSector}
 use Rattle.format.specs.Sector.{Sector, sectorIn}
 use Rattle.format.proofs.Cells.Opening.{unmarked-append}
@@ -90,18 +90,18 @@ rest-at-data s R =
     rw (rest-offset s R, rest-split s R)
     (drop-at (beforeData s) (writtenData (s .dataBytes) ++ R) (23 + keySize (length (s .keyBytes))) (length-before-data s))
 
--- It reads back with the end of what is written.
-pub rest-end : (s : Sector) (R : List ℕ) → blockEnd (writtenRest s R) ≡ 23 + keySize (length (s .keyBytes)) + dataSize (length (s .dataBytes))
-rest-end s R =
+-- It reads back with the end of what is written, where R does not start with FF FF CC.
+pub rest-end : (s : Sector) (R : List ℕ) → startsWith emptyClosing R ≡ false → blockEnd (writtenRest s R) ≡ 23 + keySize (length (s .keyBytes)) + dataSize (length (s .dataBytes))
+rest-end s R f =
     let r : List ℕ = writtenRest s R in
-    end-written r (s .dataBytes) R (rest-data-length s R) (rest-at-data s R) ∙ ap (λ (o : ℕ). o + dataSize (length (s .dataBytes))) (rest-offset s R)
+    end-written r (s .dataBytes) R (rest-data-length s R) (rest-at-data s R) f ∙ ap (λ (o : ℕ). o + dataSize (length (s .dataBytes))) (rest-offset s R)
 
--- Its blocks and the least gap fit where R is as long as that gap.
-pub rest-blocks-fit : (last : Bool) (s : Sector) (R : List ℕ) → leastGap last ≤ length R → blocksFit last (writtenRest s R) ≡ true
+-- Then its blocks and the least gap fit where R is as long as that gap.
+pub rest-blocks-fit : (last : Bool) (s : Sector) (R : List ℕ) → startsWith emptyClosing R ≡ false → leastGap last ≤ length R → blocksFit last (writtenRest s R) ≡ true
 unfolding blocksFit
-rest-blocks-fit last s R h =
+rest-blocks-fit last s R f h =
     let r : List ℕ = writtenRest s R in
-    le-leb (blockEnd r + leastGap last) (length r) (omega (arith, rest-end s R, length-rest s R))
+    le-leb (blockEnd r + leastGap last) (length r) (omega (arith, rest-end s R f, length-rest s R))
 
 -- Its key is sound.
 pub rest-key-right : (s : Sector) (R : List ℕ) → testKey (writtenRest s R) ≡ sound

@@ -6,7 +6,8 @@ use mathlib.Core.Bool.{Bool, true, false}
 use mathlib.Core.List.{List, [], _∷_, _++_, append-assoc}
 use lib.ListN.{length, take, drop, replicate, length-append, length-replicate, take-append-drop}
 use lib.Seq.{length-take-le, take-append-add}
-use lib.Dec.{lit<}
+use lib.Dec.{leb, lit<}
+use borrow.Author.Tests.{le-leb}
 use Rattle.format.specs.Judged.{good}
 use Rattle.format.specs.Lent.{unmarked}
 use Rattle.format.specs.Opening.{opens, markedOpening}
@@ -19,7 +20,8 @@ use Rattle.format.specs.Span.{cleanSpan}
 use Rattle.format.proofs.Cells.Opening.{unmarked-append, unmarked-take, unmarked-replicate, opens-front}
 use Rattle.format.proofs.Spans.Cutting.{later-unmarked, later-opening}
 use Rattle.format.proofs.Sector.ReadSector.{restOf, read-inv, read-length}
-use Rattle.format.proofs.Sector.ReadPrefix.{read-prefix}
+use Rattle.format.proofs.Sector.BlockEnd.{taken-filled}
+use Rattle.format.proofs.Sector.ReadPrefix.{read-gap}
 
 -- Where the block of the span g in position i ends, counted from the span's start.
 unfoldable pub blockPlace : ℕ → List ℕ → ℕ
@@ -51,9 +53,9 @@ module _ (i : ℕ) (g : List ℕ) (m : ℕ) where
       let inside : n ≤ length g = omega (arith, place-in i g h x p last s e) in
       let whole : take n g ++ drop n g ≡ g = take-append-drop n g in
       let ends : openingLength (isFirst i) + blockEnd (restOf i (take n g ++ drop n g)) ≡ n = ap (λ (z : List ℕ). openingLength (isFirst i) + blockEnd (restOf i z)) whole in
-      read-prefix i (take n g) (drop n g) (replicate m 0xFF) h x p p last false s (rw whole e)
-      (omega (arith, ends, length-take-le n g inside))
-      (omega (arith, ends, length-shortened inside))
+      let room : leb 21 (length {A = ℕ} (replicate m 0xFF)) ≡ true = rw (length-replicate {A = ℕ} m 0xFF) (le-leb 21 m l) in
+      read-gap i (take n g) (drop n g) (replicate m 0xFF) h x p p last false s (rw whole e) (omega (arith, ends, length-take-le n g inside))
+      ∙ rw (taken-filled (restOf i (take n g)) m, room)
 
 later-form : (i : ℕ) (g : List ℕ) (m : ℕ) → opens g ≡ true
     → shortened (suc i) g m ≡ markedOpening ++ (take (blockEnd (drop 8 g)) (drop 8 g) ++ replicate m 0xFF)
