@@ -4,3 +4,4 @@ pub mod GrownSpans
 pub mod AddedTrack
 pub mod AddAccepted
 pub mod AddPair
+pub mod TenCopied

@@ -2,6 +2,7 @@
 pub mod Outcome
 pub mod Gap
 pub mod WrittenSpans
+pub mod WrittenEnds
 pub mod ShortenedSpan
 pub mod OneBehind
 pub mod WrittenHome

@@ -2,17 +2,17 @@
 use mathlib.Core.Path.{_≡_, sym, ap, ap₂, _∙_}
 use Prim.Native.Nat.{ℕ, _≤_, _<_}
 use mathlib.Core.Bool.{true}
-use mathlib.Core.List.{List, [], _∷_, _++_}
+use mathlib.Core.List.{List, [], _∷_, _++_, map}
 use lib.ListN.{length, take}
 use Rattle.format.specs.Answer.{lentWrong}
 use Rattle.format.specs.Judged.{good}
 use Rattle.format.specs.Lent.{lengthRight, cells, bytesOf, marksOf, unmarked, bothLent}
-use Rattle.format.specs.Accept.{Accepted, accept, sectorsOf}
+use Rattle.format.specs.Accept.{Accepted, accept, endOf, sectorsOf}
 use Rattle.format.specs.Written.{Pair, asPair}
 use Rattle.format.specs.Add.{addCells, add}
 use Rattle.format.proofs.Base.Judged.{require-good}
 use Rattle.format.proofs.Track.Pairs.{bytes-cells, marks-cells, length-bytes, length-marks, bytes-copied, marks-copied, lent-marks, accept-pair, accepted-pair, lent-length, written-pair}
-use Rattle.format.proofs.Add.NewSector.{newSector, lastEnd}
+use Rattle.format.proofs.Add.NewSector.{newSector, lastEnd, addEnd}
 use Rattle.format.proofs.Add.AddAccepted.{add-accepted}
 
 module _ (gap : ℕ → ℕ → ℕ) (t m : List ℕ) (l k b7 s : ℕ) (key body : List ℕ) where
@@ -21,7 +21,7 @@ module _ (gap : ℕ → ℕ → ℕ) (t m : List ℕ) (l k b7 s : ℕ) (key body
   unfolding add
   add-lent e = rw e
 
-  -- What Add writes from a pair of bytes and marks that is accepted is accepted.
+  -- What Add writes from a pair of bytes and marks that is accepted is accepted; the old blocks end where they ended, the new one as it is written.
   pub add-pair : ((i d : ℕ) → 21 ≤ gap i d) → unmarked t ≡ true → unmarked key ≡ true → unmarked body ≡ true → s < 256
       → (a : Accepted) → accept t m ≡ good a → (q : Pair) → add gap t m l k b7 s key body ≡ good q
       → (b : Accepted)
@@ -32,6 +32,7 @@ module _ (gap : ℕ → ℕ → ℕ) (t m : List ℕ) (l k b7 s : ℕ) (key body
       × (length (q .marks) ≡ length t)
       × (take (lastEnd (a .sectors)) (q .track) ≡ take (lastEnd (a .sectors)) t)
       × (take (lastEnd (a .sectors)) (q .marks) ≡ take (lastEnd (a .sectors)) m)
+      × (map endOf (b .sectors) ≡ map endOf (a .sectors) ++ addEnd gap (a .sectors) key body ∷ [])
   unfolding add
   add-pair least ut uk ub n a acc q f =
       let c : List ℕ = cells t m in
@@ -54,4 +55,5 @@ module _ (gap : ℕ → ℕ → ℕ) (t m : List ℕ) (l k b7 s : ℕ) (key body
         ap length (sym marks) ∙ length-marks e ∙ len,
         ap (take end) (sym track) ∙ bytes-copied end e c (z .5) ∙ ap (take end) (bytes-cells t m marked ut),
         ap (take end) (sym marks) ∙ marks-copied end e c (z .5) ∙ ap (take end) (marks-cells t m marked ut),
+        z .6,
       )

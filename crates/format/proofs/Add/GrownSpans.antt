@@ -1,9 +1,9 @@
 -- The spans of a track with one more span behind them: the last of the old ones is cut at the end of its block and gets a new gap.
-use mathlib.Core.Path.{_≡_, refl, sym, ap, _∙_, subst}
+use mathlib.Core.Path.{_≡_, refl, sym, ap, ap₂, _∙_, subst}
 use Prim.Native.Nat.{ℕ, zero, suc, _+_, _≤_}
 use native.Mathlib.Omega.{arith}
 use mathlib.Core.Bool.{Bool, true, false}
-use mathlib.Core.List.{List, [], _∷_, _++_, append-assoc, append-nil}
+use mathlib.Core.List.{List, [], _∷_, _++_, map, append-assoc, append-nil}
 use lib.ListN.{length, take, drop, replicate, length-append}
 use lib.Seq.{take-append-add, take-append-le}
 use Rattle.format.specs.Judged.{good}
@@ -19,7 +19,7 @@ use Rattle.base.proofs.Tests.{and-both, and-make}
 use Rattle.format.proofs.Sector.ReadsAs.{Reads}
 use Rattle.format.proofs.Sector.ReadSector.{read-inv}
 use Rattle.format.proofs.Track.SharedAddress.{AllName, MaySettle, settle-named}
-use Rattle.format.proofs.Written.ShortenedSpan.{blockPlace, shortened, place-in, read-shortened, clean-shortened, shape-shortened}
+use Rattle.format.proofs.Written.ShortenedSpan.{blockPlace, shortened, place-in, length-shortened, read-shortened, place-shortened, clean-shortened, shape-shortened}
 use Rattle.format.specs.Blocks.{blocksAt}
 
 -- The spans g and gs, of which g stands in position i, the last of them with m bytes of gap, and w behind them.
@@ -112,6 +112,24 @@ unfolding endOf blocksAt blockPlace sectorIn
 end-placed h i x p last g s e =
     let f : s .first ≡ isFirst i = ap (λ (z : Sector). z .first) (read-inv h i x p last g s e .sector-is) in
     ap (λ (b : Bool). p + openingLength b + blockEnd (drop (openingLength b) g)) f ∙ omega arith
+
+-- In the grown spans the blocks of the old sectors end where they ended, and the new one opens behind the last of them and its gap.
+pub ends-grown : (h : Home) (i : ℕ) (x : Settled) (p : ℕ) (g : List ℕ) (gs : List (List ℕ)) (s : Sector) (ss : List Sector) (m : ℕ) (w : List ℕ) (n : Sector)
+    → Reads h i x p (g ∷ gs) (s ∷ ss) → 21 ≤ m
+    → map endOf (placedFrom p (grown i g gs m w) ((s ∷ ss) ++ n ∷ []))
+    ≡ map endOf (placedFrom p (g ∷ gs) (s ∷ ss)) ++ endOf (placedAt (endOf (lastPlaced p g gs s ss) + m) w n) ∷ []
+unfolding grown placedFrom
+ends-grown h i x p g [] s [] m w n e l =
+    let inside : blockPlace i g ≤ length g = omega (arith, place-in i g h x p true s (e .0)) in
+    let old = end-placed h i x p true g s (e .0) in
+    let new = end-placed h i x p false (shortened i g m) s (read-shortened i g m h x p true s (e .0) l) in
+    let end : endOf (placedAt p (shortened i g m) s) ≡ endOf (placedAt p g s) = omega (arith, new, old, place-shortened i g m inside) in
+    let place : p + length (shortened i g m) ≡ endOf (placedAt p g s) + m = omega (arith, length-shortened i g m inside, old) in
+    ap₂ (λ (j k : ℕ). j ∷ endOf (placedAt k w n) ∷ []) end place
+ends-grown h i x p g [] s (t ∷ ss) m w n e l = absurd (e .1)
+ends-grown h i x p g (k ∷ gs) s [] m w n e l = absurd (e .1)
+ends-grown h i x p g (k ∷ gs) s (t ∷ ss) m w n e l =
+    ap (λ (js : List ℕ). endOf (placedAt p g s) ∷ js) (ends-grown h (suc i) (settle x s) (p + length g) k gs t ss m w n (e .1) l)
 
 -- The block of the last sector and 13 bytes more lie in the track.
 pub end-in : (h : Home) (i : ℕ) (x : Settled) (p : ℕ) (g : List ℕ) (gs : List (List ℕ)) (s : Sector) (ss : List Sector) → Reads h i x p (g ∷ gs) (s ∷ ss)

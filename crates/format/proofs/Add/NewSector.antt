@@ -67,9 +67,13 @@ module _ (gap : ℕ → ℕ → ℕ) where
   lastGap [] = 0
   lastGap (x ∷ xs) = gapAfter gap ((lastOf x xs) .sector)
 
-  -- Where the block of the new sector would end, and 13 bytes more.
+  -- Where the block of the new sector would end.
+  abbrev pub addEnd : List Placed → List ℕ → List ℕ → ℕ
+  addEnd xs key body = lastEnd xs + lastGap xs + sectorSize false (length key) (length body)
+
+  -- The same, and 13 bytes more.
   abbrev pub addNeed : List Placed → List ℕ → List ℕ → ℕ
-  addNeed xs key body = lastEnd xs + lastGap xs + sectorSize false (length key) (length body) + 13
+  addNeed xs key body = addEnd xs key body + 13
 
   -- What Add writes on sectors x and xs, which start in position i.
   pub added-to-is : (c : List ℕ) (h : Home) (i b7 s : ℕ) (key body : List ℕ) (x : Placed) (xs : List Placed) (n : ℕ) → n ≡ suc (i + length xs)

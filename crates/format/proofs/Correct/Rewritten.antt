@@ -21,6 +21,7 @@ use Rattle.format.specs.Together.{Correction, replacedBy, fromEither, le
 use Rattle.format.proofs.Base.Judged.{good-inj, require-good}
 use Rattle.base.proofs.Tests.{cases, false-true}
 use Rattle.format.proofs.Sector.ReadsAs.{sectors-placed}
+use Rattle.format.proofs.Written.WrittenEnds.{EndsWritten, spans-end-written}
 use Rattle.format.proofs.Correct.Replaced.{named, namedEither, replaced-one, replaced-other}
 use Rattle.format.proofs.Correct.Relaid.{anyHit, relaid, room}
 
@@ -47,6 +48,25 @@ unfolding fromHit anyHit
 from-none hit [] e = refl
 from-none hit (x ∷ xs) e =
     cases (hit (x .sector)) (λ d. false-true (sym (rw d at e))) (λ d. rw d (from-none hit xs (rw d at e)))
+
+-- Where spans are kept up to the first sector that is hit and written afresh from there, the blocks from that sector on end as they are written.
+pub relaid-ends : (gap : ℕ → ℕ → ℕ) (hit : Sector → Bool) (p : ℕ) (gs : List (List ℕ)) (ss : List Sector) → EndsWritten (fromHit hit (placedFrom p (relaid gap hit gs ss) ss))
+unfolding fromHit placedFrom relaid writtenSpans
+relaid-ends gap hit p [] ss = tt
+relaid-ends gap hit p (g ∷ gs) [] = tt
+relaid-ends gap hit p (g ∷ gs) (s ∷ ss) =
+    cases (hit s)
+    (λ e. rw (e, all-hit e) (spans-end-written gap p n (s ∷ ss)))
+    (λ e. rw (e, none-hit e) (relaid-ends gap hit (p + length g) gs ss))
+  where
+    n : ℕ
+    n = length (joined (g ∷ gs))
+
+    all-hit : hit s ≡ true → fromHit hit (placedFrom p (writtenSpans gap n (s ∷ ss)) (s ∷ ss)) ≡ placedFrom p (writtenSpans gap n (s ∷ ss)) (s ∷ ss)
+    all-hit e = rw e
+
+    none-hit : hit s ≡ false → fromHit hit (placedFrom p (g ∷ relaid gap hit gs ss) (s ∷ ss)) ≡ fromHit hit (placedFrom (p + length g) (relaid gap hit gs ss) ss)
+    none-hit e = rw e
 
 apart : (n m : ℕ) (seen : List ℕ) → among n seen ≡ true → among m seen ≡ false → eqb m n ≡ false
 apart n m seen e f =

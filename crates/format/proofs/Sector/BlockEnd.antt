@@ -150,7 +150,24 @@ end-taken xs ys zs ends =
     (λ e. rw e (empty-taken xs ys zs (dataOffset xs) (rw e at before)))
     (λ e. rw e (omega (arith, rw e at before))))
 
--- So it does where a gap of FF follows.
-pub taken-filled : (xs : List ℕ) (m : ℕ) → takenFrom xs (replicate m 0xFF) ≡ 0
+-- It takes none where DL > 0,
+pub taken-data : (xs zs : List ℕ) → (dataLength xs ≡ 0 → ⊥) → takenFrom xs zs ≡ 0
 unfolding takenFrom
-taken-filled xs m = rw (and-right (eqb (dataLength xs) 0) (and-right (eqb (length xs) (dataOffset xs + 7)) (filled-open m)))
+taken-data xs zs n = rw (ne-eqb (dataLength xs) 0 n)
+
+-- none where it has ten bytes,
+pub taken-ten : (xs zs : List ℕ) → length xs ≡ dataOffset xs + 10 → takenFrom xs zs ≡ 0
+unfolding takenFrom
+taken-ten xs zs e =
+    let n : eqb (length xs) (dataOffset xs + 7) ≡ false = ne-eqb (length xs) (dataOffset xs + 7) (λ q. omega arith) in
+    rw (n, and-right (eqb (dataLength xs) 0) {b = false} refl)
+
+-- none where another gap than one with FF FF CC in front follows,
+pub taken-other : (xs zs : List ℕ) → startsWith emptyClosing zs ≡ false → takenFrom xs zs ≡ 0
+unfolding takenFrom
+taken-other xs zs f = rw (and-right (eqb (dataLength xs) 0) (and-right (eqb (length xs) (dataOffset xs + 7)) f))
+
+-- and else three.
+pub taken-three : (xs zs : List ℕ) → dataLength xs ≡ 0 → length xs ≡ dataOffset xs + 7 → startsWith emptyClosing zs ≡ true → takenFrom xs zs ≡ 3
+unfolding takenFrom
+taken-three xs zs d e t = rw (eq-eqb (dataLength xs) 0 d, eq-eqb (length xs) (dataOffset xs + 7) e, t)

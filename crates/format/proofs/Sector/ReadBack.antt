@@ -1,9 +1,9 @@
 -- What is written for a sector reads back as that sector, and what reads as a sector can be written.
 use mathlib.Core.Path.{_≡_, refl, sym, ap, _∙_, subst}
-use Prim.Native.Nat.{ℕ, zero, suc, _≤_}
+use Prim.Native.Nat.{ℕ, zero, suc, _+_, _≤_}
 use mathlib.Core.Bool.{Bool, true, false}
 use mathlib.Core.List.{List, [], _∷_, _++_, append-nil}
-use lib.ListN.{length, replicate, length-append, length-replicate}
+use lib.ListN.{length, drop, replicate, length-append, length-replicate}
 use lib.Dec.{leb, lit<}
 use native.Mathlib.Omega.{arith}
 use borrow.Author.Tests.{leb-true}
@@ -12,7 +12,7 @@ use Rattle.format.specs.Lent.{unmarked}
 use Rattle.format.specs.Opening.{startsWith, plainOpening, opens}
 use Rattle.format.specs.Home.{Home}
 use Rattle.format.specs.Count.{Settled, unsettled, settled, countFieldsRight}
-use Rattle.format.specs.Block.{emptyClosing, leastGap}
+use Rattle.format.specs.Block.{emptyClosing, blockEnd, leastGap}
 use Rattle.format.specs.Span.{laterSpans, cleanSpan}
 use Rattle.format.specs.Sector.{Sector, openingLength, isFirst, sectorIn, readSpan, settle, contentRight}
 use Rattle.format.specs.Written.{countOpening, writtenSector, sectorSize}
@@ -25,7 +25,7 @@ use Rattle.format.proofs.Spans.Cutting.{later-unmarked, later-opening}
 use Rattle.format.proofs.Spans.SpanAgrees.{clean-behind}
 use Rattle.format.proofs.Sector.Valid.{info-unmarked, info-fits, sector-valid}
 use Rattle.format.proofs.Sector.BlockEnd.{filled-open}
-use Rattle.format.proofs.Sector.WrittenRest.{writtenRest, written-form, length-rest, rest-flag, rest-address, rest-fits, rest-closed, rest-blocks-fit, rest-key-right, rest-data-right, rest-sector, rest-unmarked}
+use Rattle.format.proofs.Sector.WrittenRest.{writtenRest, written-form, length-rest, rest-end, rest-flag, rest-address, rest-fits, rest-closed, rest-blocks-fit, rest-key-right, rest-data-right, rest-sector, rest-unmarked}
 
 length-opening : (first : Bool) → length (countOpening first) ≡ openingLength first
 unfolding countOpening
@@ -47,10 +47,17 @@ rest-fields : (h : Home) (i : ℕ) (x : Settled) (s : Sector) (R : List ℕ) →
 unfolding countFieldsRight
 rest-fields h i x s R v = rw (rest-flag s R, rest-address s R) (and-make (v .flag-right) (v .address-right))
 
-behind-written : (i : ℕ) (r : List ℕ) → restOf i (countOpening (isFirst i) ++ r) ≡ r
+behind-opening : (first : Bool) (r : List ℕ) → drop (openingLength first) (countOpening first ++ r) ≡ r
 unfolding countOpening
-behind-written zero r = refl
-behind-written (suc i) r = refl
+behind-opening true r = refl
+behind-opening false r = refl
+
+-- A written data block, followed by FF, reads back with the bytes that were written and no more: seven where DL = 0.
+pub written-end : (s : Sector) (m : ℕ) → openingLength (s .first) + blockEnd (drop (openingLength (s .first)) (writtenSector s ++ replicate m 0xFF)) ≡ length (writtenSector s)
+unfolding sectorSize
+written-end s m =
+    rw (written-form s (replicate m 0xFF), behind-opening (s .first) (writtenRest s (replicate m 0xFF)))
+    (omega (arith, rest-end s (replicate m 0xFF) (filled-open m), length-written s))
 
 first-opened : (i : ℕ) (r : List ℕ) → i ≡ 0 → startsWith plainOpening (countOpening (isFirst i) ++ r) ≡ true
 unfolding countOpening
@@ -60,7 +67,7 @@ first-opened (suc i) r e = absurd (omega arith)
 rest-read : (h : Home) (i : ℕ) (x : Settled) (last : Bool) (s : Sector) (R : List ℕ) → Valid h i x s → startsWith emptyClosing R ≡ false → leastGap last ≤ length R
     → ReadAs h i x last (countOpening (isFirst i) ++ writtenRest s R) s
 rest-read h i x last s R v f l =
-    let e = behind-written i (writtenRest s R) in
+    let e = behind-opening (isFirst i) (writtenRest s R) in
     record {
       opened = first-opened i (writtenRest s R);
       count-fits = rw e (rest-fits s R);

@@ -1,11 +1,11 @@
 -- A span that is cut at the end of its block and gets a new gap reads as before, and keeps its shape.
-use mathlib.Core.Path.{_≡_, refl, ap, _∙_}
+use mathlib.Core.Path.{_≡_, refl, sym, ap, _∙_}
 use Prim.Native.Nat.{ℕ, zero, suc, _+_, _≤_}
 use native.Mathlib.Omega.{arith}
 use mathlib.Core.Bool.{Bool, true, false}
 use mathlib.Core.List.{List, [], _∷_, _++_, append-assoc}
-use lib.ListN.{length, take, drop, replicate, length-append, length-replicate, take-append-drop}
-use lib.Seq.{length-take-le, take-append-add}
+use lib.ListN.{length, take, drop, replicate, length-append, length-replicate, length-drop, take-append-drop}
+use lib.Seq.{length-take-le, take-append-add, drop-append-le}
 use lib.Dec.{leb, lit<}
 use borrow.Author.Tests.{le-leb}
 use Rattle.format.specs.Judged.{good}
@@ -20,7 +20,7 @@ use Rattle.format.specs.Span.{cleanSpan}
 use Rattle.format.proofs.Cells.Opening.{unmarked-append, unmarked-take, unmarked-replicate, opens-front}
 use Rattle.format.proofs.Spans.Cutting.{later-unmarked, later-opening}
 use Rattle.format.proofs.Sector.ReadSector.{restOf, read-inv, read-length}
-use Rattle.format.proofs.Sector.BlockEnd.{taken-filled}
+use Rattle.format.proofs.Sector.BlockEnd.{filled-open, end-taken, taken-other}
 use Rattle.format.proofs.Sector.ReadPrefix.{read-gap}
 
 -- Where the block of the span g in position i ends, counted from the span's start.
@@ -55,7 +55,26 @@ module _ (i : ℕ) (g : List ℕ) (m : ℕ) where
       let ends : openingLength (isFirst i) + blockEnd (restOf i (take n g ++ drop n g)) ≡ n = ap (λ (z : List ℕ). openingLength (isFirst i) + blockEnd (restOf i z)) whole in
       let room : leb 21 (length {A = ℕ} (replicate m 0xFF)) ≡ true = rw (length-replicate {A = ℕ} m 0xFF) (le-leb 21 m l) in
       read-gap i (take n g) (drop n g) (replicate m 0xFF) h x p p last false s (rw whole e) (omega (arith, ends, length-take-le n g inside))
-      ∙ rw (taken-filled (restOf i (take n g)) m, room)
+      ∙ rw (taken-other (restOf i (take n g)) (replicate m 0xFF) (filled-open m), room)
+
+  -- Its block ends where it ended.
+  pub place-shortened : blockPlace i g ≤ length g → blockPlace i (shortened i g m) ≡ blockPlace i g
+  unfolding shortened blockPlace
+  place-shortened l =
+      let o : ℕ = openingLength (isFirst i) in
+      let n : ℕ = blockPlace i g in
+      let xs : List ℕ = drop o (take n g) in
+      let size : length (take n g) ≡ n = length-take-le n g l in
+      let front : (z : List ℕ) → drop o (take n g ++ z) ≡ xs ++ z = λ z. drop-append-le o (take n g) z (omega arith) in
+      let whole : xs ++ drop n g ≡ drop o g = sym (front (drop n g)) ∙ ap (drop o) (take-append-drop n g) in
+      let ends : blockEnd (xs ++ drop n g) ≡ length xs = omega (arith, ap blockEnd whole, length-drop o (take n g)) in
+      omega (
+        arith,
+        ap blockEnd (front (replicate m 0xFF)),
+        end-taken xs (drop n g) (replicate m 0xFF) ends,
+        taken-other xs (replicate m 0xFF) (filled-open m),
+        length-drop o (take n g),
+      )
 
 later-form : (i : ℕ) (g : List ℕ) (m : ℕ) → opens g ≡ true
     → shortened (suc i) g m ≡ markedOpening ++ (take (blockEnd (drop 8 g)) (drop 8 g) ++ replicate m 0xFF)
