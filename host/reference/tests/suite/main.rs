@@ -3,6 +3,8 @@
 mod accept;
 mod bit_cells;
 mod common;
+mod empty_block;
+mod empty_block_write;
 mod find;
 mod generated;
 mod list_walk;
