@@ -141,7 +141,10 @@ fn random_sectors(rng: &mut Rng, plan: &Plan, style: Style) -> Vec<PlannedSector
         true => (0..=255).collect(),
         false => rng.shuffled_numbers(),
     };
-    let closed = rng.pick(&[0, 4, 50, 50]);
+    let closed = match style {
+        Style::Dense => rng.pick(&[0, 4, 50, 100]),
+        _ => 50,
+    };
     let mut sectors = Vec::new();
     let mut place = plan.home + HOME_TO_COUNT;
     for (index, &s) in numbers.iter().take(wanted).enumerate() {
@@ -206,6 +209,7 @@ fn random_sizes(rng: &mut Rng, style: Style, room: usize, last: bool) -> (usize,
     let dl = match (style, rng.below(8)) {
         (Style::Filled, _) if last => most_data,
         (_, 0) => 0,
+        (Style::Roomy, 1 | 2) if last => 0,
         (Style::Filled | Style::Single, 1) => most_data,
         (Style::Roomy, _) => rng.between(0, most_data.min(300)),
         (Style::Single, _) => rng.between(0, most_data),

@@ -7,6 +7,7 @@ mod empty_block;
 mod empty_block_write;
 mod find;
 mod generated;
+mod generated_empty;
 mod list_walk;
 mod pair;
 mod worked;
