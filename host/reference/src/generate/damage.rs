@@ -293,13 +293,16 @@ fn put_empty_trailer(built: &mut Built, place: usize) {
     }
 }
 
-/// Check and end byte right behind a block of seven bytes, whatever its gap, at times with a wrong zero byte.
+/// Check and end byte right behind a block of seven bytes, whatever its gap, at times with a wrong zero byte or opening.
 fn close_empty_block(rng: &mut Rng, built: &mut Built) {
     if let Some(places) = some_sector(rng, built, Places::is_seven) {
         put_empty_trailer(built, places.data + 1);
-        if rng.chance(30) {
-            built.track[places.data] = rng.between(1, 255) as u8;
-        }
+        let wrong = match rng.below(6) {
+            0 | 1 => places.data,
+            2 | 3 => places.data - 1 - rng.below(6),
+            _ => return,
+        };
+        built.track[wrong] ^= rng.between(1, 255) as u8;
     }
 }
 

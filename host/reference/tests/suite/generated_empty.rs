@@ -127,10 +127,14 @@ impl Empty<'_> {
         self.track.get(self.opening + 6) == Some(&0)
     }
 
+    /// Whether the block opens.
+    fn opens(&self) -> bool {
+        self.track.get(self.opening..self.opening + 6) == Some(&SHORT)
+    }
+
     /// Demands of Find what follows from the block; with another sector of the same number nothing does.
     fn check_find(&self, fits: bool) {
-        let opens = self.track[self.opening.min(self.track.len())..].starts_with(&SHORT);
-        let sound = opens && self.zero();
+        let sound = self.opens() && self.zero();
         match self.data.number {
             9 => assert!(!fits),
             11 => assert!(fits && !sound),
@@ -171,13 +175,15 @@ impl Empty<'_> {
     fn count_nine(&self, met: &mut Met, only_by_rule: bool) {
         let whole = only_by_rule && self.whole == answer(9, self.count.place);
         let at_index = self.count.span.end == self.track.len();
-        let wrong = !self.zero();
+        let (wrong, shut) = (!self.zero(), !self.opens());
         met.count("9 of Find by the rule", only_by_rule);
         met.count("9 of Find by the rule at index", only_by_rule && at_index);
         met.count("9 of Find by the rule, wrong 00", only_by_rule && wrong);
+        met.count("9 of Find by the rule, wrong opening", only_by_rule && shut);
         met.count("9 of Accept by the rule", whole);
         met.count("9 of Accept by the rule at index", whole && at_index);
         met.count("9 of Accept by the rule, wrong 00", whole && wrong);
+        met.count("9 of Accept by the rule, wrong opening", whole && shut);
     }
 
     /// Tallies check and end byte that reach past the span.
@@ -223,7 +229,7 @@ fn damaged_tracks_hold_empty_blocks_of_each_kind() {
         let (track, marks) = damaged(seed);
         count_any(&mut met, &track, &marks);
     }
-    met.finish("damaged", 19, 15);
+    met.finish("damaged", 21, 10);
 }
 
 #[test]
