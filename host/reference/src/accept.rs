@@ -147,7 +147,7 @@ fn address_allowed(home: &Home, named: Address) -> bool {
 
 /// Answers 9, 10 and 11: blocks within the span, then key, then data.
 fn judge_blocks(track: &[u8], count: &Count, fields: &Fields) -> Result<Placed, Answer> {
-    let blocks = count.blocks(fields);
+    let blocks = count.blocks(track, fields);
     if !count.blocks_fit(&blocks) {
         return Err(Answer::new(SPAN, count.place));
     }

@@ -22,6 +22,8 @@ pub const LONG_OPENING: [u8; 8] = [0, 0, 0, 0, 0xFF, 0xFF, 0xFF, 0x0E];
 pub const LONG_MARKS: [u8; 8] = [0, 0, 0, 0, 0, 1, 1, 0];
 /// Byte that ends home address, count, key and data.
 pub const END_BYTE: u8 = 0xCC;
+/// Check and end byte with which an empty data block may go on after its zero byte.
+pub const EMPTY_TRAILER: [u8; 3] = [0xFF, 0xFF, END_BYTE];
 /// Gap after the home address, after a count and after a key.
 pub const GAP: usize = 11;
 /// Information bytes of home address and count.
@@ -231,17 +233,26 @@ impl Count {
     }
 
     /// Places of the blocks that follow the count.
-    pub fn blocks(&self, fields: &Fields) -> Blocks {
+    pub fn blocks(&self, track: &[u8], fields: &Fields) -> Blocks {
         let after_count = self.end() + GAP;
         let (key, data) = match usize::from(fields.kl) {
             0 => (None, after_count),
             kl => (Some(after_count), after_count + 6 + kl + TRAILER + GAP),
         };
         let end = match usize::from(fields.dl) {
-            0 => data + 7,
+            0 => self.empty_block_end(track, data),
             dl => data + 6 + dl + TRAILER,
         };
         Blocks { key, data, end }
+    }
+
+    /// End of an empty data block: ten bytes if the three after the zero byte's place lie in the span and read as check and end byte, else seven.
+    fn empty_block_end(&self, track: &[u8], opening: usize) -> usize {
+        let (seven, ten) = (opening + 7, opening + 10);
+        match ten <= self.span.end && track[seven..ten] == EMPTY_TRAILER {
+            true => ten,
+            false => seven,
+        }
     }
 
     /// Rule that the blocks and the least gap lie in the span.
@@ -260,7 +271,7 @@ pub fn data_right(track: &[u8], opening: usize, dl: u16) -> Result<(), u8> {
     block_right(track, opening, usize::from(dl))
 }
 
-/// What is wrong with a block; without information its one zero byte counts as check, and it has no end byte.
+/// What is wrong with a block; without information its one zero byte counts as check, and nothing behind it is looked at.
 fn block_right(track: &[u8], opening: usize, length: usize) -> Result<(), u8> {
     let (start, end) = (opening + 6, opening + 6 + length);
     let (checks, closes) = match length {

@@ -75,7 +75,7 @@ fn find_part(track: &[u8], marks: &[u8], s: u8, part: Part) -> Result<Range<usiz
         return Err(Answer::new(BAD_INPUT, 0));
     }
     let (count, fields) = only_count(track, marks, s)?;
-    let blocks = count.blocks(&fields);
+    let blocks = count.blocks(track, &fields);
     if !count.blocks_fit(&blocks) {
         return Err(Answer::new(SPAN, count.place));
     }

@@ -9,9 +9,9 @@ use std::ops::Range;
 pub enum Fault {
     /// The block does not open.
     Opening,
-    /// It opens, but its check is wrong; of an empty data block, its one byte is not `00`.
+    /// It opens, but its check is wrong; of an empty data block, the byte behind the opening is not `00`.
     Check,
-    /// It opens and passes its check, but its closing byte is not `CC`.
+    /// It opens and passes its check, but its closing byte is not `CC`; never of an empty data block.
     Closing,
 }
 

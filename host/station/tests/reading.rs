@@ -242,6 +242,7 @@ fn sector(flag: u8, s: u8, dl: usize, gap: usize) -> PlannedSector {
         s,
         key: vec![],
         data: vec![0xD1; dl],
+        closed: false,
         gap,
     }
 }
@@ -408,5 +409,210 @@ fn every_set_of_faults() {
                 found_as(lent_of(&damaged), sector.s, block, *wanted, &note);
             }
         }
+    }
+}
+
+/// Check and end byte with which an empty data block may go on.
+const EMPTY_TRAILER: [u8; 3] = [0xFF, 0xFF, 0xCC];
+
+/// Three sectors, of which this one has no data, a key of this length, and so many bytes from its zero byte to the end of its span.
+fn with_empty_block(index: usize, kl: usize, gap: usize) -> Plan {
+    let mut sectors = vec![
+        sector(0, 0, 8, 40),
+        sector(0x80, 1, 80, 40),
+        sector(0, 2, 8, 0),
+    ];
+    let empty = &mut sectors[index];
+    (empty.key, empty.gap) = (vec![0xC1; kl], gap);
+    empty.data.clear();
+    let mut plan = plan(3_906, 30, sectors);
+    if index == 2 {
+        let built = plan.build(&mut |length| vec![0x55; length]);
+        plan.sectors[1].gap += plan.length - built.places[2].end - gap;
+    }
+    plan
+}
+
+/// The plan's track with check and end byte behind the zero byte of one sector, and 55 in the gaps.
+fn closed(plan: &Plan, index: usize) -> Built {
+    let mut built = plan.build(&mut |length| vec![0x55; length]);
+    let place = built.places[index].data + 1;
+    built.track[place..place + 3].copy_from_slice(&EMPTY_TRAILER);
+    built
+}
+
+/// The sectors that can have the least gap, each with and without a key, with the least gap.
+const NEAR_THE_END: [(usize, usize, usize); 6] = [
+    (0, 0, 21),
+    (0, 5, 21),
+    (1, 0, 21),
+    (1, 255, 21),
+    (2, 0, 13),
+    (2, 7, 13),
+];
+
+/// Demands these answers of both: of Accept, and of Find for key and data.
+fn answered_as(lent: Lent, index: usize, wanted: [Answer; 3], note: &str) {
+    let [whole, key, data] = wanted;
+    accepted_as(lent, whole, note);
+    for (number, part) in [(10, key), (11, data)] {
+        let block = Block {
+            number,
+            opening: 0,
+            length: 0,
+        };
+        found_as(lent, index as u8, &block, part, note);
+    }
+}
+
+/// Behind seven bytes 21 are enough, or 13 at index; where these start with check and end byte, 24 are, or 16.
+#[test]
+fn least_gap_behind_an_empty_block_of_ten_bytes() {
+    for (index, kl, least) in NEAR_THE_END {
+        for gap in least - 1..least + 6 {
+            let plan = with_empty_block(index, kl, gap);
+            let note = format!("sector {index}, KL {kl}, {gap} bytes");
+            let refused = |built: &Built| [answer(9, built.places[index].count); 3];
+            let seven = plan.build(&mut |length| vec![0x55; length]);
+            let ten = closed(&plan, index);
+            let (of_seven, of_ten) = match gap + 1 - least {
+                0 => (refused(&seven), refused(&ten)),
+                1..=3 => ([Answer::DONE; 3], refused(&ten)),
+                _ => ([Answer::DONE; 3], [Answer::DONE; 3]),
+            };
+            answered_as(lent_of(&seven), index, of_seven, &note);
+            answered_as(lent_of(&ten), index, of_ten, &note);
+        }
+    }
+}
+
+/// A block whose zero byte is wrong has ten bytes all the same: without room 9, with room the zero byte is refused.
+#[test]
+fn wrong_zero_byte_of_an_empty_block_of_ten_bytes() {
+    for (index, kl, least) in NEAR_THE_END {
+        for (more, byte) in (0..4).flat_map(|more| (1..=255).map(move |byte| (more, byte))) {
+            let mut built = closed(&with_empty_block(index, kl, least + more), index);
+            let places = built.places[index];
+            built.track[places.data] = byte;
+            let wrong = Answer {
+                number: 11,
+                fault: Some(Fault::Check),
+                place: places.data - 6,
+            };
+            let wanted = match more {
+                3 => [wrong, Answer::DONE, wrong],
+                _ => [answer(9, places.count); 3],
+            };
+            let note = format!("sector {index}, KL {kl}, {byte:02x}, {more} more");
+            answered_as(lent_of(&built), index, wanted, &note);
+        }
+    }
+}
+
+/// Likewise where the opening is wrong, whatever the zero byte.
+#[test]
+fn wrong_opening_of_an_empty_block_of_ten_bytes() {
+    for (index, kl, least) in NEAR_THE_END {
+        for (more, offset) in (0..4).flat_map(|more| (0..6).map(move |offset| (more, offset))) {
+            let mut built = closed(&with_empty_block(index, kl, least + more), index);
+            let places = built.places[index];
+            built.track[places.data - 6 + offset] ^= 0x40;
+            built.track[places.data] = 0xAA * (offset as u8 % 2);
+            let wrong = Answer {
+                number: 11,
+                fault: Some(Fault::Opening),
+                place: places.data - 6,
+            };
+            let wanted = match more {
+                3 => [wrong, Answer::DONE, wrong],
+                _ => [answer(9, places.count); 3],
+            };
+            let note = format!("sector {index}, KL {kl}, byte {offset}, {more} more");
+            answered_as(lent_of(&built), index, wanted, &note);
+        }
+    }
+}
+
+/// With any bit of check and end byte reversed the block has seven bytes and the least gap is enough.
+#[test]
+fn every_bit_behind_the_zero_byte() {
+    for (index, kl, least) in NEAR_THE_END {
+        for bit in 0..24 {
+            let mut built = closed(&with_empty_block(index, kl, least), index);
+            let place = built.places[index].data + 1 + bit / 8;
+            built.track[place] ^= 1 << (bit % 8);
+            let note = format!("sector {index}, KL {kl}, bit {bit}");
+            answered_as(lent_of(&built), index, [Answer::DONE; 3], &note);
+        }
+    }
+}
+
+/// A block of ten bytes has ten where the same three bytes follow once more.
+#[test]
+fn ten_bytes_and_the_same_three_once_more() {
+    for (index, kl, least) in NEAR_THE_END {
+        let mut built = closed(&with_empty_block(index, kl, least + 3), index);
+        let place = built.places[index].data + 4;
+        built.track[place..place + 3].copy_from_slice(&EMPTY_TRAILER);
+        let note = format!("sector {index}, KL {kl}");
+        answered_as(lent_of(&built), index, [Answer::DONE; 3], &note);
+    }
+}
+
+/// A block with one byte of data ends with its own end byte, whatever follows.
+#[test]
+fn one_byte_of_data_and_check_and_end_byte_behind_it() {
+    for (index, byte) in [(0, 0x00), (0, 0x07), (1, 0x00), (1, 0xFF)] {
+        let mut plan = with_empty_block(index, 3 * index, 21);
+        plan.sectors[index].data = vec![byte];
+        let mut built = plan.build(&mut |length| vec![0x55; length]);
+        let end = built.places[index].end;
+        built.track[end..end + 3].copy_from_slice(&EMPTY_TRAILER);
+        let note = format!("sector {index}, {byte:02x}");
+        answered_as(lent_of(&built), index, [Answer::DONE; 3], &note);
+    }
+}
+
+/// A mark that ends the span so many bytes behind the zero byte: check and end byte are no part of the block before they lie in the span.
+#[test]
+fn check_and_end_byte_past_the_span() {
+    for (index, kl, least) in NEAR_THE_END {
+        for inside in 0..30 {
+            let mut built = closed(&with_empty_block(index, kl, least + 30), index);
+            let places = built.places[index];
+            let mark = places.data + 1 + inside + 5;
+            built.marks[mark] = 1;
+            let found = match inside {
+                0..24 => answer(9, places.count),
+                _ => Answer::DONE,
+            };
+            let note = format!("sector {index}, KL {kl}, {inside} inside");
+            answered_as(
+                lent_of(&built),
+                index,
+                [answer(5, mark), found, found],
+                &note,
+            );
+        }
+    }
+}
+
+/// The track ends so many bytes behind the zero byte.
+#[test]
+fn check_and_end_byte_past_index() {
+    for (kl, inside) in (0..20).flat_map(|inside| [(0, inside), (4, inside)]) {
+        let plan = with_empty_block(2, kl, inside);
+        let mut built = plan.build(&mut |length| vec![0x55; length]);
+        let places = built.places[2];
+        let behind = built.track[places.data + 1..].iter_mut();
+        behind
+            .zip(EMPTY_TRAILER)
+            .for_each(|(byte, value)| *byte = value);
+        let wanted = match inside {
+            0..16 => answer(9, places.count),
+            _ => Answer::DONE,
+        };
+        let note = format!("KL {kl}, {inside} inside");
+        answered_as(lent_of(&built), 2, [wanted; 3], &note);
     }
 }

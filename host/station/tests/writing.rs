@@ -7,8 +7,8 @@ use common::{
     Tally, Track,
 };
 use reference::generate::{
-    damaged, sound, spoiled, wanted_add, wanted_blank, wanted_correct, WantedAdd, WantedBlank,
-    WantedCorrect,
+    damaged, sound, spoiled, wanted_add, wanted_blank, wanted_correct, Built, Plan, PlannedSector,
+    WantedAdd, WantedBlank, WantedCorrect,
 };
 use station::{Answer, Candidate, Lent, Wanted};
 
@@ -292,6 +292,162 @@ fn largest_data_of_a_blank_track() {
             let note = format!("length {length}, DL {dl}");
             let (done, _) = blank_by_both(noise(0, length, length), &w, &note);
             assert_eq!(done, answer(number, 0), "{note}");
+        }
+    }
+}
+
+/// The zero byte of an empty data block that goes on with check and end byte.
+const FOUR: [u8; 4] = [0x00, 0xFF, 0xFF, 0xCC];
+/// The opening of a count after sector 0.
+const LONG_OPENING: [u8; 8] = [0x00, 0x00, 0x00, 0x00, 0xFF, 0xFF, 0xFF, 0x0E];
+
+/// So many sectors 0, 1, 2 and on without data, with least gaps; their blocks have ten bytes, the odd ones have a key.
+fn of_ten_bytes(number: u8) -> Built {
+    let ten = |s: u8| PlannedSector {
+        flag: s % 2 * 0x80,
+        s,
+        key: vec![0xC1; usize::from(s % 2) * 45],
+        data: vec![],
+        closed: true,
+        gap: 21,
+    };
+    let plan = Plan {
+        length: 3_906,
+        home: 30,
+        flag: 0,
+        address: reference::Address::default(),
+        named: reference::Address::default(),
+        sectors: (0..number).map(ten).collect(),
+    };
+    plan.build(&mut |length| vec![0x55; length])
+}
+
+/// Both slices of a built track.
+fn lent_of(built: &Built) -> Lent<'_> {
+    (&built.track, &built.marks)
+}
+
+/// A sector without B7 to be added.
+fn wanted_sector(s: u8, kl: usize, dl: usize) -> WantedAdd {
+    WantedAdd {
+        b7: 0,
+        s,
+        key: vec![0xC2; kl],
+        data: vec![0xD1; dl],
+    }
+}
+
+/// All ten bytes are kept, and the gap and the new sector stand behind them.
+#[test]
+fn add_behind_a_block_of_ten_bytes() {
+    for number in 1..5 {
+        for (seed, (kl, dl)) in (0..).zip([(0, 0), (0, 1), (3, 0), (20, 500)]) {
+            let note = format!("{number} sectors, KL {kl}, DL {dl}");
+            let old = of_ten_bytes(number);
+            let last = old.places[old.places.len() - 1];
+            let w = wanted_sector(99, kl, dl);
+            let (done, new) = add_by_both(lent_of(&old), noise(seed, 3_906, 3_906), &w, &note);
+            assert_eq!(done, Answer::DONE, "{note}");
+            let end = last.data + 4;
+            assert_eq!(new.0[..end], old.track[..end], "{note}");
+            assert_eq!(new.1[..end], old.marks[..end], "{note}");
+            assert_eq!(new.0[last.data..end], FOUR, "{note}");
+            let gap = if number % 2 == 0 { 21 + 2 } else { 21 };
+            assert_eq!(new.0[end..end + gap], vec![0xFF; gap], "{note}");
+            assert_eq!(new.0[end + gap..][..8], LONG_OPENING, "{note}");
+            let after = end + gap + sector_length(false, kl, dl);
+            assert!(new.0[after..].iter().all(|&byte| byte == 0xFF), "{note}");
+            reads_back(lent(&new), 99, &w.key, &w.data, &note);
+        }
+    }
+}
+
+/// The three bytes take their room: a sector that just fits, and one with a byte more.
+#[test]
+fn room_behind_a_block_of_ten_bytes() {
+    for number in 1..5 {
+        let old = of_ten_bytes(number);
+        let end = old.places[old.places.len() - 1].data + 4;
+        let gap = if number % 2 == 0 { 21 + 2 } else { 21 };
+        let most = 3_906 - 13 - end - gap - (sector_length(false, 0, 1) - 1);
+        for (dl, wanted) in [(most, 0), (most + 1, 15), (most + 3, 15), (most + 4, 15)] {
+            let note = format!("{number} sectors, DL {dl}");
+            let w = wanted_sector(99, 0, dl);
+            let (done, _) = add_by_both(lent_of(&old), noise(1, 3_906, 3_906), &w, &note);
+            assert_eq!(done, answer(wanted, 0), "{note}");
+        }
+    }
+}
+
+/// Demands sectors of these lengths from a place on, each behind the other's first-written gap, the empty blocks of seven bytes, and FF to index.
+fn first_written_from(
+    new: &Track,
+    place: usize,
+    index: usize,
+    sizes: &[(usize, usize)],
+    note: &str,
+) {
+    let mut place = place;
+    for (index, &(kl, dl)) in sizes.iter().enumerate().skip(index) {
+        let end = place + sector_length(index == 0, kl, dl);
+        assert_eq!(new.0[end - 1], if dl == 0 { 0x00 } else { 0xCC }, "{note}");
+        let last = index + 1 == sizes.len();
+        let gap = match last {
+            true => new.0.len() - end,
+            false => 21 + (kl + dl) / 20,
+        };
+        assert_eq!(new.0[end..end + gap], vec![0xFF; gap], "{note}");
+        place = end + gap;
+        assert!(last || new.0[place..].starts_with(&LONG_OPENING), "{note}");
+    }
+}
+
+/// Blocks before the corrected sector keep their ten bytes, the others get seven with FF behind them.
+#[test]
+fn correct_among_blocks_of_ten_bytes() {
+    let old = of_ten_bytes(5);
+    for index in 0..5 {
+        for (seed, (kl, dl)) in (0..).zip([(0, 0), (30, 0), (0, 101), (7, 1)]) {
+            let note = format!("sector {index}, KL {kl}, DL {dl}");
+            let WantedAdd { s, key, data, .. } = wanted_sector(index as u8, kl, dl);
+            let w = WantedCorrect { s, key, data };
+            let (done, new) = correct_by_both(lent_of(&old), noise(seed, 3_906, 3_906), &w, &note);
+            assert_eq!(done, Answer::DONE, "{note}");
+            let place = old.places[index].count;
+            assert_eq!(new.0[..place], old.track[..place], "{note}");
+            assert_eq!(new.1[..place], old.marks[..place], "{note}");
+            for before in &old.places[..index] {
+                assert_eq!(new.0[before.data..before.data + 4], FOUR, "{note}");
+            }
+            let mut sizes = [(0, 0), (45, 0), (0, 0), (45, 0), (0, 0)];
+            sizes[index] = (kl, dl);
+            first_written_from(&new, place, index, &sizes, &note);
+            reads_back(lent(&new), s, &w.key, &w.data, &note);
+        }
+    }
+}
+
+/// Two corrections with blocks of ten bytes before, between, in and behind the two sectors: one track in both orders.
+#[test]
+fn corrections_in_both_orders_among_blocks_of_ten_bytes() {
+    let built = of_ten_bytes(5);
+    let old: Track = (built.track, built.marks);
+    let body = |s: u8, (kl, dl): (usize, usize)| {
+        let WantedAdd { s, key, data, .. } = wanted_sector(s, kl, dl);
+        WantedCorrect { s, key, data }
+    };
+    let sizes = [(0, 0), (44, 500), (1, 0), (0, 1)];
+    for (a, b) in (0..5).flat_map(|a| (a + 1..5).map(move |b| (a, b))) {
+        for (of_a, of_b) in sizes.iter().flat_map(|one| sizes.map(|two| (*one, two))) {
+            let note = format!("sectors {a} {of_a:?} and {b} {of_b:?}");
+            let (a, b) = (body(a, of_a), body(b, of_b));
+            let (done_a, with_a) = corrected(1, &old, &a, &note);
+            let (done_b, with_b) = corrected(1, &old, &b, &note);
+            assert_eq!((done_a, done_b), (Answer::DONE, Answer::DONE), "{note}");
+            let (done_ab, both_ab) = corrected(2, &with_a, &b, &note);
+            let (done_ba, both_ba) = corrected(2, &with_b, &a, &note);
+            assert_eq!((done_ab, done_ba), (Answer::DONE, Answer::DONE), "{note}");
+            same_buffers(&both_ab, &both_ba, &note);
         }
     }
 }

@@ -39,11 +39,11 @@ impl Block {
         Block {
             number: DATA,
             opening: places.data - 6,
-            length: (places.end - places.data).saturating_sub(TRAILER),
+            length: places.dl,
         }
     }
 
-    /// Where a changed byte spoils opening, check and end byte; an empty block has one zero byte and no end byte.
+    /// Where a changed byte spoils opening, check and end byte; an empty block has one zero byte, and nothing behind it is judged.
     pub fn parts(&self) -> [Range<usize>; 3] {
         let start = self.opening + 6;
         let (check_end, end) = match self.length {

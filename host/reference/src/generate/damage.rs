@@ -1,7 +1,7 @@
 //! Faults put on sound tracks.
 
 use super::block::spoil_block;
-use super::plan::{Built, Plan};
+use super::plan::{Built, Places, Plan};
 use super::rng::Rng;
 use super::sound::{sound_plan, Sound};
 use crate::check::check;
@@ -33,7 +33,7 @@ pub fn damage(rng: &mut Rng, sound: Sound) -> (Vec<u8>, Vec<u8>) {
 
 /// One fault that keeps lengths and mark values in rule.
 fn put_fault(rng: &mut Rng, plan: &Plan, built: &mut Built) {
-    match rng.below(19) {
+    match rng.below(25) {
         0 => flip_bit(rng, built),
         1 | 2 => change_structure(rng, plan, built),
         3 => change_block(rng, built),
@@ -47,6 +47,10 @@ fn put_fault(rng: &mut Rng, plan: &Plan, built: &mut Built) {
         12 => alter_home(rng, plan, built),
         13 => alter_length(rng, built),
         14 | 15 => alter_count(rng, built),
+        16 | 17 => close_empty_block(rng, built),
+        18 | 19 => cut_empty_block(rng, built),
+        20 => break_ten_byte_block(rng, built),
+        21 => plant_last_sector(rng, built),
         _ => drop(spoil_block(rng, built)),
     }
 }
@@ -124,6 +128,11 @@ fn gain_mark(rng: &mut Rng, plan: &Plan, built: &mut Built) {
         3 => places.end + 15 + rng.below(14),
         _ => places.end + rng.below(30),
     };
+    put_mark(built, place);
+}
+
+/// A mark, if the track has the place.
+fn put_mark(built: &mut Built, place: usize) {
     if let Some(mark) = built.marks.get_mut(place) {
         *mark = 1;
     }
@@ -179,8 +188,12 @@ fn plant_count(rng: &mut Rng, plan: &Plan, built: &mut Built) {
     if rng.chance(50) {
         information[6..9].fill(0);
     }
-    let start = place + 8;
-    built.track[start..start + COUNT_INFORMATION].copy_from_slice(&information);
+    put_count_information(built, place + 8, &information);
+}
+
+/// A count's information with its check and end byte.
+fn put_count_information(built: &mut Built, start: usize, information: &[u8]) {
+    built.track[start..start + COUNT_INFORMATION].copy_from_slice(information);
     recheck(&mut built.track, start, COUNT_INFORMATION);
     built.track[start + 11] = END_BYTE;
 }
@@ -264,6 +277,80 @@ fn alter_length(rng: &mut Rng, built: &mut Built) {
         built.track[start + 7..start + 9].copy_from_slice(&new.to_be_bytes());
     }
     recheck(&mut built.track, start, COUNT_INFORMATION);
+}
+
+/// A random one of the sectors of this kind, if there is any.
+fn some_sector(rng: &mut Rng, built: &Built, kind: fn(&Places) -> bool) -> Option<Places> {
+    let places = built.places.iter().copied();
+    let of_kind: Vec<Places> = places.filter(kind).collect();
+    (!of_kind.is_empty()).then(|| rng.pick(&of_kind))
+}
+
+/// The check and end byte of an empty block, as far as the track goes.
+fn put_empty_trailer(built: &mut Built, place: usize) {
+    for (byte, value) in built.track[place..].iter_mut().zip(EMPTY_TRAILER) {
+        *byte = value;
+    }
+}
+
+/// Check and end byte right behind a block of seven bytes, whatever its gap, at times with a wrong zero byte or opening.
+fn close_empty_block(rng: &mut Rng, built: &mut Built) {
+    if let Some(places) = some_sector(rng, built, Places::is_seven) {
+        put_empty_trailer(built, places.data + 1);
+        let wrong = match rng.below(6) {
+            0 | 1 => places.data,
+            2 | 3 => places.data - 1 - rng.below(6),
+            _ => return,
+        };
+        built.track[wrong] ^= rng.between(1, 255) as u8;
+    }
+}
+
+/// Check and end byte behind an empty block's zero byte, and a mark or an opening that ends the span within them or near the least gap.
+fn cut_empty_block(rng: &mut Rng, built: &mut Built) {
+    let Some(places) = some_sector(rng, built, |places| places.dl == 0) else {
+        return;
+    };
+    let behind = places.data + 1;
+    put_empty_trailer(built, behind);
+    let span_end = match rng.chance(60) {
+        true => behind + rng.below(4),
+        false => behind + rng.between(18, 27),
+    };
+    match rng.chance(50) && span_end + 8 <= built.track.len() {
+        true => put_marked_opening(built, span_end),
+        false => put_mark(built, span_end + 5),
+    }
+}
+
+/// A byte of check and end byte of a block of ten bytes changed, so that it has seven.
+fn break_ten_byte_block(rng: &mut Rng, built: &mut Built) {
+    if let Some(places) = some_sector(rng, built, Places::is_ten) {
+        let place = places.data + 1 + rng.below(3);
+        built.track[place] ^= rng.pick(&[0x01, 0x80, 0xFF, 0x33, 0xCC]);
+    }
+}
+
+/// A sector without key and data whose zero byte stands close to index, with check and end byte as far as the track goes.
+fn plant_last_sector(rng: &mut Rng, built: &mut Built) {
+    let length = built.track.len();
+    let left = rng.pick(&[0, 1, 2, 3, 12, 13, 14, 15, 16, 17]);
+    let place = length - left - (20 + GAP + 7);
+    let copied = count_information(built, built.places.len() - 1);
+    let mut information = built.track[copied..copied + COUNT_INFORMATION].to_vec();
+    information[0] ^= 0x80;
+    information[5] = rng.byte();
+    information[6..9].fill(0);
+    built.track[place..].fill(0xFF);
+    built.marks[place..].fill(0);
+    put_marked_opening(built, place);
+    put_count_information(built, place + 8, &information);
+    let block = place + 20 + GAP;
+    built.track[block..block + 6].copy_from_slice(&SHORT_OPENING);
+    built.track[block + 6] = 0;
+    if rng.chance(80) {
+        put_empty_trailer(built, block + 7);
+    }
 }
 
 /// A length out of rule, or a mark value of 2.

@@ -69,17 +69,18 @@ fn put_count(rng: &mut Rng, built: &mut Track, flag: u8) {
         put_block(rng, built, dl.into());
     }
     let gap = match rng.chance(5) {
-        true => rng.pick(&[0, 12, 13, 20]),
+        true => rng.pick(&[0, 12, 13, 18, 20]),
         false => rng.pick(&[21, 22, 40]),
     };
     put(built, &vec![0xFF; gap]);
 }
 
-/// A gap, an opening and a block of this length.
+/// A gap, an opening and a block of this length; an empty one at times goes on with check and end byte.
 fn put_block(rng: &mut Rng, built: &mut Track, length: usize) {
     put(built, &[0x55; GAP]);
     put(built, &SHORT_OPENING);
     match length {
+        0 if rng.chance(30) => put_information(built, &[0]),
         0 => put(built, &[0]),
         _ => put_information(built, &rng.bytes(length)),
     }

@@ -10,7 +10,25 @@ pub struct PlannedSector {
     pub s: u8,
     pub key: Vec<u8>,
     pub data: Vec<u8>,
+    /// Whether an empty data block goes on with check and end byte.
+    pub closed: bool,
     pub gap: usize,
+}
+
+impl PlannedSector {
+    /// Bytes from the count's end to the data block's end.
+    pub fn blocks_length(&self) -> usize {
+        let key = match self.key.len() {
+            0 => 0,
+            kl => GAP + 6 + kl + TRAILER,
+        };
+        let data = match self.data.len() {
+            0 if self.closed => 10,
+            0 => 7,
+            dl => 6 + dl + TRAILER,
+        };
+        key + GAP + data
+    }
 }
 
 /// A whole track; any value may be out of rule.
@@ -25,13 +43,26 @@ pub struct Plan {
     pub sectors: Vec<PlannedSector>,
 }
 
-/// Where a built sector lies: opening of the count, information of key and data, end of the block.
+/// Where a built sector lies: opening of the count, information of key and data, how many bytes of data, end of the block.
 #[derive(Clone, Copy, Debug, PartialEq, Eq)]
 pub struct Places {
     pub count: usize,
     pub key: usize,
     pub data: usize,
+    pub dl: usize,
     pub end: usize,
+}
+
+impl Places {
+    /// Whether the data block is empty and ends with its zero byte.
+    pub fn is_seven(&self) -> bool {
+        self.dl == 0 && self.end == self.data + 1
+    }
+
+    /// Whether the data block is empty and goes on with check and end byte.
+    pub fn is_ten(&self) -> bool {
+        self.dl == 0 && self.end == self.data + 4
+    }
 }
 
 /// A built track.
@@ -42,10 +73,48 @@ pub struct Built {
     pub places: Vec<Places>,
 }
 
+impl Built {
+    /// Where a sector's span ends.
+    pub fn span_end(&self, index: usize) -> usize {
+        let next = self.places.get(index + 1);
+        next.map_or(self.track.len(), |next| next.count)
+    }
+
+    /// How many bytes of a sector's span follow its data block.
+    pub fn gap_after(&self, index: usize) -> usize {
+        self.span_end(index) - self.places[index].end
+    }
+
+    /// Ends of the empty data blocks, by the bytes that follow the zero byte in the span, planned or not.
+    pub(super) fn measure_empty_blocks(&mut self) {
+        for index in 0..self.places.len() {
+            let (places, span_end) = (self.places[index], self.span_end(index));
+            if places.dl == 0 {
+                let behind = &self.track[places.data + 1..span_end];
+                let goes_on = behind.starts_with(&EMPTY_TRAILER);
+                self.places[index].end = places.data + if goes_on { 4 } else { 1 };
+            }
+        }
+    }
+}
+
 /// Contents of a gap of a given length.
 pub type Gap<'a> = &'a mut dyn FnMut(usize) -> Vec<u8>;
 
 impl Plan {
+    /// Where the last data block ends.
+    pub(super) fn end(&self) -> usize {
+        let mut end = self.home + HOME_TO_COUNT;
+        for (index, sector) in self.sectors.iter().enumerate() {
+            end += match index {
+                0 => 18,
+                _ => self.sectors[index - 1].gap + 20,
+            };
+            end += sector.blocks_length();
+        }
+        end
+    }
+
     /// Bytes and marks of the plan, gap contents as given.
     pub fn build(&self, gap: Gap) -> Built {
         let mut track = gap(self.home);
@@ -64,11 +133,13 @@ impl Plan {
         let rest = self.length - track.len();
         track.extend(gap(rest));
         let marks = marks_for(&places, track.len());
-        Built {
+        let mut built = Built {
             track,
             marks,
             places,
-        }
+        };
+        built.measure_empty_blocks();
+        built
     }
 
     /// One sector up to its data block's end.
@@ -94,10 +165,14 @@ impl Plan {
             false => push_block(track, &sector.key, gap),
         };
         let data = push_block(track, &sector.data, gap);
+        if sector.data.is_empty() && sector.closed {
+            track.extend_from_slice(&EMPTY_TRAILER);
+        }
         Places {
             count,
             key,
             data,
+            dl: sector.data.len(),
             end: track.len(),
         }
     }

@@ -64,6 +64,9 @@ pub(super) fn sound_with(rng: &mut Rng, flag: u8, address: Address, partner: Add
         sectors: Vec::new(),
     };
     plan.sectors = random_sectors(rng, &plan, style);
+    if rng.chance(20) {
+        push_last_sector(rng, &mut plan);
+    }
     let built = build_with_noise(rng, &plan);
     Sound { plan, built }
 }
@@ -138,6 +141,10 @@ fn random_sectors(rng: &mut Rng, plan: &Plan, style: Style) -> Vec<PlannedSector
         true => (0..=255).collect(),
         false => rng.shuffled_numbers(),
     };
+    let closed = match style {
+        Style::Dense => rng.pick(&[0, 4, 50, 100]),
+        _ => 50,
+    };
     let mut sectors = Vec::new();
     let mut place = plan.home + HOME_TO_COUNT;
     for (index, &s) in numbers.iter().take(wanted).enumerate() {
@@ -147,24 +154,33 @@ fn random_sectors(rng: &mut Rng, plan: &Plan, style: Style) -> Vec<PlannedSector
             break;
         }
         let (kl, dl) = random_sizes(rng, style, room, index + 1 == wanted);
-        let sector = PlannedSector {
+        let mut sector = PlannedSector {
             flag: random_flag(rng, plan.flag, index),
             s,
             key: rng.bytes(kl),
             data: random_data(rng, dl),
+            closed: dl == 0 && rng.chance(closed),
             gap: random_gap(rng, style),
         };
-        place = count_end + blocks_length(kl, dl) + sector.gap;
+        sector.closed &= sector.blocks_length() <= room;
+        place = count_end + sector.blocks_length() + sector.gap;
         sectors.push(sector);
     }
     sectors
 }
 
-/// Bytes from a count's end to its data block's end.
-fn blocks_length(kl: usize, dl: usize) -> usize {
-    let key = if kl == 0 { 0 } else { GAP + 9 + kl };
-    let data = if dl == 0 { 7 } else { 9 + dl };
-    key + GAP + data
+/// The last sector, at times emptied, moved right until its block ends where it may at the latest, or up to three bytes before.
+fn push_last_sector(rng: &mut Rng, plan: &mut Plan) {
+    if let [_, .., last] = &mut plan.sectors[..] {
+        if !last.data.is_empty() && rng.chance(60) {
+            last.data.clear();
+            last.closed = rng.chance(50);
+        }
+    }
+    let left = plan.length - GAP_BEFORE_INDEX - plan.end();
+    if let [.., before, _] = &mut plan.sectors[..] {
+        before.gap += left.saturating_sub(rng.below(4));
+    }
 }
 
 /// Flag of a sector: B2 B1 of home, B8 alternating, B7 at times.
@@ -188,10 +204,12 @@ fn random_sizes(rng: &mut Rng, style: Style, room: usize, last: bool) -> (usize,
         3 => rng.between(0, most_key),
         _ => rng.between(0, most_key.min(16)),
     };
-    let most_data = room.saturating_sub(blocks_length(kl, 0) + 2);
+    let key = if kl == 0 { 0 } else { GAP + 9 + kl };
+    let most_data = room.saturating_sub(key + GAP + 9);
     let dl = match (style, rng.below(8)) {
         (Style::Filled, _) if last => most_data,
         (_, 0) => 0,
+        (Style::Roomy, 1 | 2) if last => 0,
         (Style::Filled | Style::Single, 1) => most_data,
         (Style::Roomy, _) => rng.between(0, most_data.min(300)),
         (Style::Single, _) => rng.between(0, most_data),
@@ -220,7 +238,7 @@ fn random_data(rng: &mut Rng, length: usize) -> Vec<u8> {
     data
 }
 
-/// Gap contents of one kind, at times with the bytes of an unmarked opening.
+/// Gap contents of one kind, at times with the bytes of an unmarked opening, or with the check and end byte of an empty block.
 fn random_gap_bytes(rng: &mut Rng, kind: usize, length: usize) -> Vec<u8> {
     let mut gap = match kind {
         0 => vec![0x00; length],
@@ -237,6 +255,13 @@ fn random_gap_bytes(rng: &mut Rng, kind: usize, length: usize) -> Vec<u8> {
             false => gap[place..place + 6].copy_from_slice(&SHORT_OPENING),
         }
     }
+    if length >= 3 && rng.chance(15) {
+        let place = match rng.chance(60) {
+            true => 0,
+            false => rng.below(length - 2),
+        };
+        gap[place..place + 3].copy_from_slice(&EMPTY_TRAILER);
+    }
     gap
 }
 
@@ -249,5 +274,21 @@ fn build_with_noise(rng: &mut Rng, plan: &Plan) -> Built {
             built.track[place + 5] = 0x0F;
         }
     }
+    keep_least_gaps(rng, &mut built);
     built
+}
+
+/// Where an empty block goes on only by its gap's contents and the rest is less than the least gap, one bit of these reversed.
+fn keep_least_gaps(rng: &mut Rng, built: &mut Built) {
+    for index in 0..built.places.len() {
+        let least = match index + 1 < built.places.len() {
+            true => GAP_BEFORE_OPENING,
+            false => GAP_BEFORE_INDEX,
+        };
+        if built.gap_after(index) < least {
+            let place = built.places[index].data + 1 + rng.below(3);
+            built.track[place] ^= 1 << rng.below(8);
+        }
+    }
+    built.measure_empty_blocks();
 }

@@ -115,9 +115,23 @@ fn sectors_of(track: &[u8], marks: &[u8]) -> Vec<Sector> {
     records[..number].to_vec()
 }
 
-/// Bytes of a first-written sector with a key but without its data.
-fn overhead(kl: usize) -> usize {
-    20 + GAP + 9 + if kl == 0 { 0 } else { 20 + kl }
+/// Bytes of a first-written sector from its count's opening to its data block's end.
+fn sector_length(index: usize, kl: usize, dl: usize) -> usize {
+    let count = if index == 0 { 18 } else { 20 };
+    let key = if kl == 0 { 0 } else { GAP + 9 + kl };
+    let data = if dl == 0 { 7 } else { 9 + dl };
+    count + key + GAP + data
+}
+
+/// End of the last sector's data block on an accepted track.
+fn last_end(track: &[u8], last: &Sector) -> usize {
+    let behind = &track[last.data_place + 1..];
+    let length = match usize::from(last.dl) {
+        0 if behind.starts_with(&EMPTY_TRAILER) => 1 + TRAILER,
+        0 => 1,
+        dl => dl + TRAILER,
+    };
+    last.data_place + length
 }
 
 /// Random arguments of Add for this track.
@@ -127,12 +141,8 @@ pub fn wanted_add(seed: u64, track: &[u8], marks: &[u8]) -> WantedAdd {
     let key = wanted_key(&mut rng);
     let used = sectors.last().map_or(0, |last| {
         let sizes = usize::from(last.kl) + usize::from(last.dl);
-        let block = if last.dl == 0 {
-            1
-        } else {
-            usize::from(last.dl) + 3
-        };
-        last.data_place + block + 21 + sizes / 20 + overhead(key.len())
+        let but_for_data = sector_length(1, key.len(), 1) - 1;
+        last_end(track, last) + 21 + sizes / 20 + but_for_data
     });
     let room = track.len().saturating_sub(GAP_BEFORE_INDEX + used);
     let absent = |s: &u8| sectors.iter().all(|sector| sector.s != *s);
@@ -174,19 +184,31 @@ pub fn wanted_correct(seed: u64, track: &[u8], marks: &[u8]) -> WantedCorrect {
     }
 }
 
-/// Greatest data length, nearly, with which a corrected sector and those after it still fit.
+/// Greatest data length with which a corrected sector and those after it still fit.
 fn correct_room(sectors: &[Sector], index: usize, kl: usize, length: usize) -> usize {
+    let (mut room, mut step) = (0, 4_096);
+    while step > 0 {
+        let end = corrected_end(sectors, index, kl, room + step);
+        room += if end + GAP_BEFORE_INDEX <= length {
+            step
+        } else {
+            0
+        };
+        step /= 2;
+    }
+    room
+}
+
+/// Where the last block ends with these lengths in one sector, and first-written form from its count on.
+fn corrected_end(sectors: &[Sector], index: usize, kl: usize, dl: usize) -> usize {
     let old = &sectors[index];
-    let opening = old.data_place + 3 - overhead(old.kl.into());
-    let mut used = opening + overhead(kl);
-    let mut sizes = kl;
+    let opening = old.data_place + 1 - sector_length(index, old.kl.into(), 0);
+    let mut end = opening + sector_length(index, kl, dl);
+    let mut sizes = kl + dl;
     for later in &sectors[index + 1..] {
-        used += 21 + sizes / 20 + overhead(later.kl.into()) + usize::from(later.dl);
-        sizes = usize::from(later.kl) + usize::from(later.dl);
+        let (kl, dl) = (usize::from(later.kl), usize::from(later.dl));
+        end += 21 + sizes / 20 + sector_length(1, kl, dl);
+        sizes = kl + dl;
     }
-    let room = length.saturating_sub(GAP_BEFORE_INDEX + used);
-    match index + 1 < sectors.len() {
-        true => room * 20 / 21,
-        false => room,
-    }
+    end
 }

@@ -42,6 +42,7 @@ pub fn sector(flag: u8, s: u8, kl: usize, dl: usize) -> PlannedSector {
         s,
         key: (0..kl).map(|i| (i * 7 + 1) as u8).collect(),
         data: (0..dl).map(|i| (i * 11 + 3) as u8).collect(),
+        closed: false,
         gap: 40,
     }
 }

@@ -59,6 +59,7 @@ fn sound_tracks_are_found_and_walked() {
 fn sound_tracks_are_varied() {
     let (mut numbers, mut homes, mut flags) = (BTreeSet::new(), BTreeSet::new(), BTreeSet::new());
     let (mut least_gap, mut last_gap, mut b7, mut keys, mut empty) = (0, 0, 0, 0, 0);
+    let mut ten = 0;
     let mut lengths = BTreeSet::new();
     for seed in 0..2_000 {
         let Sound { plan, built } = sound_plan(seed);
@@ -73,6 +74,7 @@ fn sound_tracks_are_varied() {
         b7 += plan.sectors.iter().filter(|s| s.flag & 0x40 != 0).count();
         keys += plan.sectors.iter().filter(|s| !s.key.is_empty()).count();
         empty += plan.sectors.iter().filter(|s| s.data.is_empty()).count();
+        ten += built.places.iter().filter(|s| s.is_ten()).count();
     }
     assert!(numbers.contains(&1) && numbers.contains(&67) && numbers.len() > 40);
     assert_eq!(numbers.last(), Some(&67));
@@ -82,7 +84,7 @@ fn sound_tracks_are_varied() {
     );
     assert_eq!(flags.into_iter().collect::<Vec<_>>(), [0, 1, 2, 3]);
     assert!(lengths.contains(&3_815) && lengths.contains(&4_002) && lengths.len() > 100);
-    assert!([least_gap, last_gap, b7, keys, empty]
+    assert!([least_gap, last_gap, b7, keys, empty, ten]
         .iter()
         .all(|&n| n > 50));
 }

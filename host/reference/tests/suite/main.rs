@@ -3,8 +3,11 @@
 mod accept;
 mod bit_cells;
 mod common;
+mod empty_block;
+mod empty_block_write;
 mod find;
 mod generated;
+mod generated_empty;
 mod list_walk;
 mod pair;
 mod worked;

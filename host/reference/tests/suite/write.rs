@@ -4,7 +4,7 @@ use crate::common::*;
 use reference::generate::{Built, Plan};
 use reference::*;
 
-const L: usize = 3_906;
+pub const L: usize = 3_906;
 
 /// Two buffers full of noise.
 fn noise(length: usize) -> (Vec<u8>, Vec<u8>) {
@@ -41,7 +41,7 @@ fn blank_with(
     (done, pair)
 }
 
-fn add_to(built: &Built, b7: u8, s: u8, key: &[u8], data: &[u8]) -> (Answer, Built) {
+pub fn add_to(built: &Built, b7: u8, s: u8, key: &[u8], data: &[u8]) -> (Answer, Built) {
     let mut pair = noise(built.track.len());
     let done = add(
         &built.track,
@@ -57,7 +57,7 @@ fn add_to(built: &Built, b7: u8, s: u8, key: &[u8], data: &[u8]) -> (Answer, Bui
     (done, rebuilt(pair))
 }
 
-fn correct_in(built: &Built, s: u8, key: &[u8], data: &[u8]) -> (Answer, Built) {
+pub fn correct_in(built: &Built, s: u8, key: &[u8], data: &[u8]) -> (Answer, Built) {
     let mut pair = noise(built.track.len());
     let done = correct(
         &built.track,
@@ -81,7 +81,7 @@ fn rebuilt((track, marks): (Vec<u8>, Vec<u8>)) -> Built {
 }
 
 /// A plan's track with every gap in first-written form; home must stand at 30.
-fn first_written(plan: &Plan) -> Built {
+pub fn first_written(plan: &Plan) -> Built {
     let mut plan = plan.clone();
     for sector in &mut plan.sectors {
         sector.gap = 21 + (sector.key.len() + sector.data.len()) / 20;
