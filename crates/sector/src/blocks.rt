@@ -11,8 +11,8 @@ ghost use Rattle.sector.specs.As.{asTested};
 ghost use Rattle.sector.specs.Measured.{asMeasured, measuredIn};
 use crate::bytes::check_follows;
 use crate::bytes::closing_follows;
-use crate::bytes::starts_empty_closing;
 use crate::bytes::starts_plain;
+use crate::bytes::starts_with;
 use crate::bytes::starts_zero;
 use crate::count::data_length;
 use crate::count::key_length;
@@ -22,6 +22,7 @@ use format::layout::BLOCK_FRAME;
 use format::layout::CLOSED_EMPTY_BLOCK;
 use format::layout::COUNT_TO_BLOCK;
 use format::layout::EMPTY_BLOCK;
+use format::layout::EMPTY_CLOSING;
 use format::layout::KEY_FRAME;
 use format::layout::PLAIN;
 
@@ -61,7 +62,7 @@ fn empty_size(c: &[u8]) -> usize
     if c.len() < EMPTY_BLOCK {
         return EMPTY_BLOCK;
     }
-    if starts_empty_closing(&c[EMPTY_BLOCK..]) {
+    if starts_with(&c[EMPTY_BLOCK..], &EMPTY_CLOSING) {
         CLOSED_EMPTY_BLOCK
     } else {
         EMPTY_BLOCK

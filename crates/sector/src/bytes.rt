@@ -3,11 +3,9 @@ ghost use mathlib.Core.Path.{_≡_};
 ghost use mathlib.Core.List.{[], _∷_};
 ghost use lib.ListN.{getD};
 ghost use Rattle.format.specs.Opening.{startsWith, plainOpening, closedAfter, checkFollows, closingFollows};
-ghost use Rattle.format.specs.Block.{emptyClosing};
 use format::layout::CHECK;
 use format::layout::CLOSING;
 use format::layout::CLOSING_BYTE;
-use format::layout::EMPTY_CLOSING;
 use format::layout::PLAIN_OPENING;
 
 // The byte at i, and 0 past the end.
@@ -57,15 +55,15 @@ pub fn closed_after(r: &[u8], n: usize) -> bool
 }
 
 // Whether the bytes start with these.
-fn starts_with(c: &[u8], opening: &[u8]) -> bool
-    ensures { λ b. ⌜ b ≡ startsWith (now (opening .entry)) (now (c .entry)) ⌝ }
+pub(crate) fn starts_with(c: &[u8], wanted: &[u8]) -> bool
+    ensures { λ b. ⌜ b ≡ startsWith (now (wanted .entry)) (now (c .entry)) ⌝ }
 {
-    if c.len() < opening.len() {
+    if c.len() < wanted.len() {
         return false;
     }
     let mut k = 0;
-    while k < opening.len() {
-        if c[k] != opening[k] {
+    while k < wanted.len() {
+        if c[k] != wanted[k] {
             return false;
         }
         k += 1;
@@ -78,13 +76,6 @@ pub(crate) fn starts_plain(c: &[u8]) -> bool
     ensures { λ b. ⌜ b ≡ startsWith plainOpening (now (c .entry)) ⌝ }
 {
     starts_with(c, &PLAIN_OPENING)
-}
-
-// Whether the bytes start with FF FF CC, which a data block where DL = 0 may go on with.
-pub(crate) fn starts_empty_closing(c: &[u8]) -> bool
-    ensures { λ b. ⌜ b ≡ startsWith emptyClosing (now (c .entry)) ⌝ }
-{
-    starts_with(c, &EMPTY_CLOSING)
 }
 
 // Whether the bytes start with one 00.

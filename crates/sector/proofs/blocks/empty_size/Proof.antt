@@ -8,32 +8,36 @@ use Rattle.sector.proofs.blocks.empty_size.Tie as tie
 returns : tie.Need-returns
 returns c = size-short (c .before .before .args .c .now) (c .if1 .taken)
 
-sub-starts-empty-closing : tie.Need-sub-starts-empty-closing
-sub-starts-empty-closing c = search needs
+sub-starts-with : tie.Need-sub-starts-with
+sub-starts-with c = search needs
 
-part-starts-empty-closing-start : tie.Need-part-starts-empty-closing-start
-part-starts-empty-closing-start c = search needs
+part-starts-with-start : tie.Need-part-starts-with-start
+part-starts-with-start c = search needs
 
-part-starts-empty-closing-end : tie.Need-part-starts-empty-closing-end
-part-starts-empty-closing-end c = search needs
+part-starts-with-end : tie.Need-part-starts-with-end
+part-starts-with-end c = search needs
 
-starts-empty-closing-requires : tie.Need-starts-empty-closing-requires
-starts-empty-closing-requires c κs = search needs
+slice-aggregate-starts-with : tie.Need-slice-aggregate-starts-with
+slice-aggregate-starts-with c = search needs
+
+starts-with-requires : tie.Need-starts-with-requires
+starts-with-requires c κs = search needs
 
 returns-2 : tie.Need-returns-2
-returns-2 c = size-closed (c .before .before .before .before .before .args .c .now) (sym (c .before .starts-empty-closing .ensures) ∙ c .if2 .taken)
+returns-2 c = size-closed (c .before .before .before .before .before .before .args .c .now) (sym (c .before .starts-with .ensures) ∙ c .if2 .taken)
 
 returns-3 : tie.Need-returns-3
-returns-3 c = size-open (c .before .before .before .before .before .args .c .now) (sym (c .before .starts-empty-closing .ensures) ∙ c .if2 .left)
+returns-3 c = size-open (c .before .before .before .before .before .before .args .c .now) (sym (c .before .starts-with .ensures) ∙ c .if2 .left)
 
 pub empty-size-spec : {M : Type 1} → statement M
 empty-size-spec =
     tie.close
     (tie.spec
     returns
-    sub-starts-empty-closing
-    part-starts-empty-closing-start
-    part-starts-empty-closing-end
-    starts-empty-closing-requires
+    sub-starts-with
+    part-starts-with-start
+    part-starts-with-end
+    slice-aggregate-starts-with
+    starts-with-requires
     returns-2
     returns-3)
