@@ -1,6 +1,7 @@
 /*
  * A small capture station: makes a track with two sectors, reads it, corrects it, tries what a damaged copy
- * answers, and writes the pair (L track bytes, then L marks) to the file named on the command line.
+ * and data blocks without data answer, and writes the pair (L track bytes, then L marks) to the file named on
+ * the command line.
  */
 #include "iso3561.h"
 
@@ -142,6 +143,36 @@ static void damage(const struct pair *sound) {
     }
 }
 
+/* One more sector without key and data. */
+static void add_empty(const char *what, const struct pair *old, struct pair *new_pair) {
+    expect_done(what, iso3561_add(old->track, L, old->marks, L, new_pair->track, L,
+                                  new_pair->marks, L, 0, 1, key, 0, label, 0));
+}
+
+/* A data block without data may go on behind its 00, here at 90, with check and closing byte. Then it has ten
+ * bytes: a sector is added behind all ten, and a gap that was the least one before is three bytes too short. */
+static void without_data(void) {
+    static const uint8_t closing[] = {0xFF, 0xFF, 0xCC};
+    static struct pair first, second;
+    uint64_t result;
+    expect_done("blank without data",
+                iso3561_blank(first.track, L, first.marks, L, 100, 7, 0, 0, 0, 0, key, 0, label, 0));
+    add_empty("add sector 1 behind seven bytes", &first, &second);
+    memcpy(second.track + 91, closing, 3);
+    result = iso3561_accept(second.track, L, second.marks, L);
+    expect("accept with ten bytes there", iso3561_number(result), iso3561_place(result),
+           ISO3561_SPAN_TOO_SHORT, 55);
+    memcpy(first.track + 91, closing, 3);
+    add_empty("add sector 1 behind ten bytes", &first, &second);
+    expect_done("accept", iso3561_accept(second.track, L, second.marks, L));
+    result = iso3561_walk(second.track, L, second.marks, L, 56);
+    expect("walk", iso3561_walk_number(result), iso3561_walk_place(result), ISO3561_DONE, 115);
+    if (memcmp(first.track, second.track, 94) != 0) {
+        printf("the old block was not copied\n");
+        surprises++;
+    }
+}
+
 /* The pair as the listing program reads it. */
 static int save(const char *name, const struct pair *pair) {
     FILE *file = fopen(name, "wb");
@@ -172,5 +203,6 @@ int main(int count, char **words) {
     correct(&two, &three);
     find(&three, record);
     damage(&three);
+    without_data();
     return save(words[1], &three) && surprises == 0 ? 0 : 1;
 }

@@ -34,7 +34,7 @@ enum iso3561_number {
     ISO3561_FIRST_COUNT_MISSING = 6, /* sector 0's count does not open */
     ISO3561_COUNT_CHECK_WRONG = 7,   /* a count's check or closing byte is wrong */
     ISO3561_COUNT_FIELDS_WRONG = 8,  /* a count's flag, cylinder or head is out of rule */
-    ISO3561_SPAN_TOO_SHORT = 9,      /* a count, its blocks or the least gap do not fit the span */
+    ISO3561_SPAN_TOO_SHORT = 9,      /* a count, its blocks or the least gap do not fit the span; see below */
     ISO3561_KEY_WRONG = 10,          /* the key's opening, check or closing byte is wrong: see enum iso3561_fault */
     ISO3561_DATA_WRONG = 11,         /* the data block's likewise, or it is not 00 for DL = 0 */
     ISO3561_SECTOR_MISSING = 12,     /* no candidate carries S, or none is left to walk to */
@@ -44,6 +44,9 @@ enum iso3561_number {
     ISO3561_PAIR_WRONG = 16,         /* the two tracks do not agree, or the first is flagged 11 */
     ISO3561_PATTERN_WRONG = 17       /* a byte's bit cells are no legal pattern, or a marked byte is not FF */
 };
+
+/* ISO3561_SPAN_TOO_SHORT: 21 bytes must follow the data block before the next opening, 13 before index. A data
+ * block of DL = 0 has seven bytes, its opening and one 00; or ten, if FF FF CC follows the place of the 00. */
 
 /* The second number of an answer: what was wrong with the block, the first in this order.
  * It is 0 but with ISO3561_KEY_WRONG and ISO3561_DATA_WRONG, which always have one of the others. */
