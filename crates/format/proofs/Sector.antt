@@ -9,4 +9,5 @@ pub mod Valid
 pub mod ReadBack
 pub mod ReadsAs
 pub mod ReadPrefix
+pub mod Regapped
 pub mod CountRight

@@ -1,26 +1,26 @@
 -- The spans of a track with one more span behind them: the last of the old ones is cut at the end of its block and gets a new gap.
 use mathlib.Core.Path.{_≡_, refl, sym, ap, ap₂, _∙_, subst}
-use Prim.Native.Nat.{ℕ, zero, suc, _+_, _≤_}
+use Prim.Native.Nat.{ℕ, suc, _+_, _≤_}
 use native.Mathlib.Omega.{arith}
-use mathlib.Core.Bool.{Bool, true, false}
+use mathlib.Core.Bool.{true, false}
 use mathlib.Core.List.{List, [], _∷_, _++_, map, append-assoc, append-nil}
-use lib.ListN.{length, take, drop, replicate, length-append}
+use lib.ListN.{length, take, replicate, length-append}
 use lib.Seq.{take-append-add, take-append-le}
 use Rattle.format.specs.Judged.{good}
 use Rattle.format.specs.Address.{Address}
 use Rattle.format.specs.Home.{Home}
 use Rattle.format.specs.Count.{Settled, settled}
-use Rattle.format.specs.Block.{blockEnd, leastGap}
+use Rattle.format.specs.Block.{leastGap}
 use Rattle.format.specs.Span.{joined, none, cleanSpan, cleanSpans}
-use Rattle.format.specs.Sector.{Sector, openingLength, isFirst, sectorIn, settle, readSpan}
+use Rattle.format.specs.Sector.{Sector, settle, readSpan}
 use Rattle.format.specs.Accept.{Placed, placedFrom, endOf, lastOf}
 use Rattle.format.proofs.Spans.Shape.{Shape}
+use Rattle.format.proofs.Spans.Cutting.{shape-cons, shape-head, shape-tail}
 use Rattle.base.proofs.Tests.{and-both, and-make}
 use Rattle.format.proofs.Sector.ReadsAs.{Reads}
-use Rattle.format.proofs.Sector.ReadSector.{read-inv}
 use Rattle.format.proofs.Track.SharedAddress.{AllName, MaySettle, settle-named}
-use Rattle.format.proofs.Written.ShortenedSpan.{blockPlace, shortened, place-in, length-shortened, read-shortened, place-shortened, clean-shortened, shape-shortened}
-use Rattle.format.specs.Blocks.{blocksAt}
+use Rattle.format.proofs.Sector.Regapped.{blockPlace, regapped, place-in, read-first, end-placed}
+use Rattle.format.proofs.Written.ShortenedSpan.{shortened, length-shortened, read-shortened, place-shortened, clean-shortened, shape-shortened}
 
 -- The spans g and gs, of which g stands in position i, the last of them with m bytes of gap, and w behind them.
 unfoldable pub grown : ℕ → List ℕ → List (List ℕ) → ℕ → List ℕ → List (List ℕ)
@@ -47,18 +47,6 @@ reads-grown h i x p g [] (t ∷ []) m w s b n d e y v l f =
 reads-grown h i x p g (k ∷ gs) (t ∷ ss) m w s b n d e y v l f =
     let z : MaySettle (settle x t) b = subst (λ (c : Settled). MaySettle c b) (sym (settle-named x t b y (v .0))) refl in
     (rw (none-grown (suc i) k gs m w) (e .0), reads-grown h (suc i) (settle x t) (p + length g) k gs ss m w s b n (omega arith) (e .1) z (v .1) l f)
-
-shape-cons : (i : ℕ) (g : List ℕ) (gs : List (List ℕ)) → Shape i (g ∷ []) → Shape (suc i) gs → Shape i (g ∷ gs)
-shape-cons zero g gs v t = (v .0, t)
-shape-cons (suc i) g gs v t = (v .0, t)
-
-shape-head : (i : ℕ) (g : List ℕ) (gs : List (List ℕ)) → Shape i (g ∷ gs) → Shape i (g ∷ [])
-shape-head zero g gs v = (v .0, tt)
-shape-head (suc i) g gs v = (v .0, tt)
-
-shape-tail : (i : ℕ) (g : List ℕ) (gs : List (List ℕ)) → Shape i (g ∷ gs) → Shape (suc i) gs
-shape-tail zero g gs v = v .1
-shape-tail (suc i) g gs v = v .1
 
 -- They have the shape of spans,
 pub shape-grown : (i : ℕ) (g : List ℕ) (gs : List (List ℕ)) (m : ℕ) (w : List ℕ) (n : ℕ) → n ≡ suc (i + length gs)
@@ -106,13 +94,6 @@ last-name b p g [] s ss v = v .0
 last-name b p g (k ∷ gs) s [] v = v .0
 last-name b p g (k ∷ gs) s (t ∷ ss) v = last-name b (p + length g) k gs t ss (v .1)
 
-end-placed : (h : Home) (i : ℕ) (x : Settled) (p : ℕ) (last : Bool) (g : List ℕ) (s : Sector) → readSpan h i x p last g ≡ good s
-    → endOf (placedAt p g s) ≡ p + blockPlace i g
-unfolding endOf blocksAt blockPlace sectorIn
-end-placed h i x p last g s e =
-    let f : s .first ≡ isFirst i = ap (λ (z : Sector). z .first) (read-inv h i x p last g s e .sector-is) in
-    ap (λ (b : Bool). p + openingLength b + blockEnd (drop (openingLength b) g)) f ∙ omega arith
-
 -- In the grown spans the blocks of the old sectors end where they ended, and the new one opens behind the last of them and its gap.
 pub ends-grown : (h : Home) (i : ℕ) (x : Settled) (p : ℕ) (g : List ℕ) (gs : List (List ℕ)) (s : Sector) (ss : List Sector) (m : ℕ) (w : List ℕ) (n : Sector)
     → Reads h i x p (g ∷ gs) (s ∷ ss) → 21 ≤ m
@@ -121,8 +102,8 @@ pub ends-grown : (h : Home) (i : ℕ) (x : Settled) (p : ℕ) (g : List ℕ) (gs
 unfolding grown placedFrom
 ends-grown h i x p g [] s [] m w n e l =
     let inside : blockPlace i g ≤ length g = omega (arith, place-in i g h x p true s (e .0)) in
-    let old = end-placed h i x p true g s (e .0) in
-    let new = end-placed h i x p false (shortened i g m) s (read-shortened i g m h x p true s (e .0) l) in
+    let old = end-placed i p g s (read-first h i x p true g s (e .0)) in
+    let new = end-placed i p (shortened i g m) s (read-first h i x p true g s (e .0)) in
     let end : endOf (placedAt p (shortened i g m) s) ≡ endOf (placedAt p g s) = omega (arith, new, old, place-shortened i g m inside) in
     let place : p + length (shortened i g m) ≡ endOf (placedAt p g s) + m = omega (arith, length-shortened i g m inside, old) in
     ap₂ (λ (j k : ℕ). j ∷ endOf (placedAt k w n) ∷ []) end place
@@ -135,7 +116,7 @@ ends-grown h i x p g (k ∷ gs) s (t ∷ ss) m w n e l =
 pub end-in : (h : Home) (i : ℕ) (x : Settled) (p : ℕ) (g : List ℕ) (gs : List (List ℕ)) (s : Sector) (ss : List Sector) → Reads h i x p (g ∷ gs) (s ∷ ss)
     → endOf (lastPlaced p g gs s ss) + 13 ≤ p + length (joined (g ∷ gs))
 unfolding placedFrom leastGap
-end-in h i x p g [] s ss e = omega (arith, end-placed h i x p true g s (e .0), place-in i g h x p true s (e .0), length-append g [])
+end-in h i x p g [] s ss e = omega (arith, end-placed i p g s (read-first h i x p true g s (e .0)), place-in i g h x p true s (e .0), length-append g [])
 end-in h i x p g (k ∷ gs) s [] e = absurd (e .1)
 end-in h i x p g (k ∷ gs) s (t ∷ ss) e =
     omega (arith, end-in h (suc i) (settle x s) (p + length g) k gs t ss (e .1), length-append g (joined (k ∷ gs)))
@@ -144,11 +125,11 @@ end-in h i x p g (k ∷ gs) s (t ∷ ss) e =
 pub joined-grown : (xs : List ℕ) (h : Home) (i : ℕ) (x : Settled) (p : ℕ) (g : List ℕ) (gs : List (List ℕ)) (s : Sector) (ss : List Sector) (m : ℕ) (w : List ℕ)
     → length xs ≡ p → Reads h i x p (g ∷ gs) (s ∷ ss)
     → xs ++ joined (grown i g gs m w) ≡ (take (endOf (lastPlaced p g gs s ss)) (xs ++ joined (g ∷ gs)) ++ replicate m 0xFF) ++ w
-unfolding grown placedFrom shortened
+unfolding grown placedFrom regapped
 joined-grown xs h i x p g [] s ss m w l e =
     let n : ℕ = blockPlace i g in
     let inside : n ≤ length g = omega (arith, place-in i g h x p true s (e .0)) in
-    let place : endOf (placedAt p g s) ≡ length xs + n = omega (arith, end-placed h i x p true g s (e .0)) in
+    let place : endOf (placedAt p g s) ≡ length xs + n = omega (arith, end-placed i p g s (read-first h i x p true g s (e .0))) in
     let kept : take (endOf (placedAt p g s)) (xs ++ (g ++ [])) ≡ xs ++ take n g =
     ap (λ (j : ℕ). take j (xs ++ (g ++ []))) place ∙ take-append-add xs (g ++ []) n ∙ ap (λ (z : List ℕ). xs ++ z) (take-append-le n g [] inside) in
     rw kept (simp (append-assoc, append-nil))

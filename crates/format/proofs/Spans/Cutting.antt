@@ -1,6 +1,6 @@
 -- Cutting a track at its marked openings, and joining the spans again.
 use mathlib.Core.Path.{_≡_, refl, sym, ap, ap₂, _∙_}
-use Prim.Native.Nat.{ℕ, suc}
+use Prim.Native.Nat.{ℕ, zero, suc}
 use mathlib.Core.Bool.{true, false}
 use mathlib.Core.List.{List, [], _∷_, _++_, append-nil}
 use mathlib.Core.Logic.{_⊎_, inl, inr}
@@ -129,3 +129,18 @@ later-unmarked (x ∷ xs) u = rw (opens-unmarked (x ∷ xs) u) (later-unmarked x
 pub later-opening : (xs : List ℕ) → unmarked xs ≡ true → laterSpans (markedOpening ++ xs) ≡ (markedOpening ++ xs) ∷ []
 unfolding laterSpans beforeOpening opens
 later-opening xs u = rw (before-whole xs (later-unmarked xs u), later-unmarked xs u)
+
+-- A span before others that have the shape of spans,
+pub shape-cons : (i : ℕ) (g : List ℕ) (gs : List (List ℕ)) → Shape i (g ∷ []) → Shape (suc i) gs → Shape i (g ∷ gs)
+shape-cons zero g gs v t = (v .0, t)
+shape-cons (suc i) g gs v t = (v .0, t)
+
+-- that span alone,
+pub shape-head : (i : ℕ) (g : List ℕ) (gs : List (List ℕ)) → Shape i (g ∷ gs) → Shape i (g ∷ [])
+shape-head zero g gs v = (v .0, tt)
+shape-head (suc i) g gs v = (v .0, tt)
+
+-- and those behind it.
+pub shape-tail : (i : ℕ) (g : List ℕ) (gs : List (List ℕ)) → Shape i (g ∷ gs) → Shape (suc i) gs
+shape-tail zero g gs v = v .1
+shape-tail (suc i) g gs v = v .1

@@ -37,7 +37,8 @@ pub record Track (head : List ℕ) (h : Home) (gs : List (List ℕ)) (ss : List 
 abbrev pub acceptedOf : Home → List (List ℕ) → List Sector → Accepted
 acceptedOf h gs ss = record { home = h; sectors = placedFrom (firstCountPlace (h .place)) gs ss }
 
-spans-found : (gs : List (List ℕ)) → none gs ≡ false → Shape 0 gs → spans (joined gs) ≡ gs
+-- Spans of the right shape are found again, where there is one.
+pub spans-found : (gs : List (List ℕ)) → none gs ≡ false → Shape 0 gs → spans (joined gs) ≡ gs
 spans-found [] e k = false-true (sym e)
 spans-found (g ∷ gs) e k = spans-joined g gs k
 
