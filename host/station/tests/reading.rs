@@ -4,7 +4,7 @@ mod common;
 
 use common::{answer, expected, Tally, Track};
 use reference::generate::{
-    damaged, jumbled, pair, sound, spoiled, Block, Built, Plan, PlannedSector, Rng, Spoiled,
+    damaged, jumbled, pair, sound, spoiled, Block, Built, Places, Plan, PlannedSector, Rng, Spoiled,
 };
 use reference::{Address, Part};
 use station::{Answer, Fault, Lent, Wanted, Which};
@@ -486,6 +486,19 @@ fn least_gap_behind_an_empty_block_of_ten_bytes() {
     }
 }
 
+/// What is answered of an empty block of ten bytes that is wrong, with so many bytes more than the least gap of seven: without room 9, with room 11 but for the key.
+fn refused_as(places: &Places, fault: Fault, more: usize) -> [Answer; 3] {
+    let wrong = Answer {
+        number: 11,
+        fault: Some(fault),
+        place: places.data - 6,
+    };
+    match more {
+        3 => [wrong, Answer::DONE, wrong],
+        _ => [answer(9, places.count); 3],
+    }
+}
+
 /// A block whose zero byte is wrong has ten bytes all the same: without room 9, with room the zero byte is refused.
 #[test]
 fn wrong_zero_byte_of_an_empty_block_of_ten_bytes() {
@@ -494,15 +507,7 @@ fn wrong_zero_byte_of_an_empty_block_of_ten_bytes() {
             let mut built = closed(&with_empty_block(index, kl, least + more), index);
             let places = built.places[index];
             built.track[places.data] = byte;
-            let wrong = Answer {
-                number: 11,
-                fault: Some(Fault::Check),
-                place: places.data - 6,
-            };
-            let wanted = match more {
-                3 => [wrong, Answer::DONE, wrong],
-                _ => [answer(9, places.count); 3],
-            };
+            let wanted = refused_as(&places, Fault::Check, more);
             let note = format!("sector {index}, KL {kl}, {byte:02x}, {more} more");
             answered_as(lent_of(&built), index, wanted, &note);
         }
@@ -518,15 +523,7 @@ fn wrong_opening_of_an_empty_block_of_ten_bytes() {
             let places = built.places[index];
             built.track[places.data - 6 + offset] ^= 0x40;
             built.track[places.data] = 0xAA * (offset as u8 % 2);
-            let wrong = Answer {
-                number: 11,
-                fault: Some(Fault::Opening),
-                place: places.data - 6,
-            };
-            let wanted = match more {
-                3 => [wrong, Answer::DONE, wrong],
-                _ => [answer(9, places.count); 3],
-            };
+            let wanted = refused_as(&places, Fault::Opening, more);
             let note = format!("sector {index}, KL {kl}, byte {offset}, {more} more");
             answered_as(lent_of(&built), index, wanted, &note);
         }

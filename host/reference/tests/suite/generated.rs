@@ -430,7 +430,8 @@ fn contents(track: &[u8], marks: &[u8]) -> Vec<(u8, u8, Vec<u8>, Vec<u8>)> {
     listed(track, marks).iter().map(contents_of).collect()
 }
 
-fn correction(track: &[u8], marks: &[u8], w: &WantedCorrect) -> (Answer, Vec<u8>, Vec<u8>) {
+/// What Correct answers and leaves; a refusal leaves the buffers as they were.
+pub fn correction(track: &[u8], marks: &[u8], w: &WantedCorrect) -> (Answer, Vec<u8>, Vec<u8>) {
     let (mut new, mut new_marks) = (vec![0xA5; track.len()], vec![0x5A; track.len()]);
     let done = correct(track, marks, &mut new, &mut new_marks, w.s, &w.key, &w.data);
     if done.number != 0 {
@@ -465,25 +466,32 @@ fn wanted_corrections() {
     assert!(seen[0] > 400, "{seen:?}");
 }
 
+/// The sectors of two wanted corrections, and the answer to both: the same in either order, with the same track.
+/// None where they name one sector, or one of them is not done alone.
+pub fn both_orders(seed: u64, track: &[u8], marks: &[u8]) -> Option<(u8, u8, Answer)> {
+    let a = wanted_correct(seed, track, marks);
+    let b = wanted_correct(seed + 50_000, track, marks);
+    let (done_a, track_a, marks_a) = correction(track, marks, &a);
+    let (done_b, track_b, marks_b) = correction(track, marks, &b);
+    if a.s == b.s || done_a.number != 0 || done_b.number != 0 {
+        return None;
+    }
+    let a_then_b = correction(&track_a, &marks_a, &b);
+    let b_then_a = correction(&track_b, &marks_b, &a);
+    assert_eq!(a_then_b, b_then_a, "seed {seed}");
+    Some((a.s, b.s, a_then_b.0))
+}
+
 /// Two corrections of different sectors: the same track in both orders, or 15 in both.
 #[test]
 fn corrections_in_both_orders() {
     let (mut same, mut full) = (0, 0);
     for seed in 10_000..11_200 {
         let (track, marks) = sound(seed);
-        let a = wanted_correct(seed, &track, &marks);
-        let b = wanted_correct(seed + 50_000, &track, &marks);
-        let (done_a, track_a, marks_a) = correction(&track, &marks, &a);
-        let (done_b, track_b, marks_b) = correction(&track, &marks, &b);
-        if a.s == b.s || done_a.number != 0 || done_b.number != 0 {
-            continue;
-        }
-        let a_then_b = correction(&track_a, &marks_a, &b);
-        let b_then_a = correction(&track_b, &marks_b, &a);
-        assert_eq!(a_then_b, b_then_a, "seed {seed}");
-        match a_then_b.0 {
-            Answer { number: 0, .. } => same += 1,
-            refusal => {
+        match both_orders(seed, &track, &marks) {
+            None => {}
+            Some((_, _, Answer { number: 0, .. })) => same += 1,
+            Some((_, _, refusal)) => {
                 assert_eq!(refusal, answer(15, 0));
                 full += 1;
             }

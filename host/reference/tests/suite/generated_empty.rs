@@ -1,6 +1,7 @@
 //! Generated tracks: the data blocks of DL = 0, and how often each kind of them is met.
 
 use crate::common::*;
+use crate::generated::{both_orders, correction};
 use reference::generate::*;
 use reference::layout::{first_count, later_count, marked_opening_at, Count, Fields};
 use reference::*;
@@ -303,13 +304,6 @@ fn wanted_additions_behind_ten_bytes() {
     met.finish("additions", 4, 5);
 }
 
-/// Correct into noise.
-fn correction(track: &[u8], marks: &[u8], w: &WantedCorrect) -> (Answer, Vec<u8>, Vec<u8>) {
-    let (mut new, mut new_marks) = (vec![0xA5; track.len()], vec![0x5A; track.len()]);
-    let done = correct(track, marks, &mut new, &mut new_marks, w.s, &w.key, &w.data);
-    (done, new, new_marks)
-}
-
 /// How many blocks have ten bytes left of a sector, in it, and right of it.
 fn tens_around(sectors: &[(u8, usize, bool)], s: u8) -> [usize; 3] {
     let tens = |sectors: &[(u8, usize, bool)]| sectors.iter().filter(|one| one.2).count();
@@ -360,16 +354,10 @@ fn corrections_in_both_orders_among_ten_bytes() {
     for seed in 30_000..33_000 {
         let (track, marks) = sound(seed);
         let old = ends(&track, &marks);
-        let a = wanted_correct(seed, &track, &marks);
-        let b = wanted_correct(seed + 50_000, &track, &marks);
-        let (done_a, track_a, marks_a) = correction(&track, &marks, &a);
-        let (done_b, track_b, marks_b) = correction(&track, &marks, &b);
-        if a.s == b.s || done_a.number != 0 || done_b.number != 0 {
+        let Some((a, b, done)) = both_orders(seed, &track, &marks) else {
             continue;
-        }
-        let both = correction(&track_a, &marks_a, &b);
-        assert_eq!(both, correction(&track_b, &marks_b, &a), "seed {seed}");
-        let (done, around_a, around_b) = (both.0, tens_around(&old, a.s), tens_around(&old, b.s));
+        };
+        let (around_a, around_b) = (tens_around(&old, a), tens_around(&old, b));
         let [left, right] = [0, 2].map(|side| around_a[side].min(around_b[side]));
         let all: usize = around_a.iter().sum();
         let between = all - left - right - around_a[1] - around_b[1];
