@@ -1,10 +1,10 @@
--- The end of the data block that is read: its bounds, that no byte behind it matters to it, and that a written block reads back with it.
+-- The end of the data block that is read: its bounds, which bytes that follow are its own, and that a written block reads back with it.
 use mathlib.Core.Path.{_≡_, refl, sym, ap, _∙_}
 use Prim.Native.Nat.{ℕ, zero, suc, _+_, _≤_, _<_}
 use native.Mathlib.Omega.{arith}
 use mathlib.Core.Bool.{Bool, true, false, _&&_}
-use mathlib.Core.List.{List, [], _∷_, _++_, append-nil}
-use lib.ListN.{length, drop, replicate, getD}
+use mathlib.Core.List.{List, [], _∷_, _++_}
+use lib.ListN.{length, drop, replicate, getD, List·getD-append}
 use lib.Seq.{drop-at, drop-drop}
 use lib.Dec.{eqb, eqb·suc-zero}
 use borrow.Author.Tests.{leb-true, eqb-true, eq-eqb, ne-eqb}
@@ -91,7 +91,7 @@ module _ (r : List ℕ) where
   end-written [] R e w f = rw (e, w, f)
   end-written (x ∷ xs) R e w f = rw (e, eqb·suc-zero (length xs))
 
--- The blocks end within xs: what follows xs does not matter to the count and to the end.
+-- The blocks end within xs: what follows xs does not matter to the count and to where the data block opens.
 module _ (xs ys zs : List ℕ) (ends : blockEnd (xs ++ ys) ≤ length xs) where
   -- The least that lies before the end.
   pub count-in : 30 ≤ length xs
@@ -114,13 +114,18 @@ module _ (xs ys zs : List ℕ) (ends : blockEnd (xs ++ ys) ≤ length xs) where
   unfolding dataOffset
   offset-same = rw key-length-same
 
--- The same of its own lengths, and of xs alone.
-module _ (xs ys zs : List ℕ) (ends : blockEnd (xs ++ ys) ≤ length xs) where
-  length-alone : dataLength (xs ++ zs) ≡ dataLength xs
-  length-alone = data-length-same xs ys zs ends ∙ sym (data-length-same xs ys [] ends) ∙ ap dataLength (append-nil xs)
+  -- They are those of xs alone: its bytes,
+  byte-alone : (j : ℕ) → j < 30 → getD (xs ++ zs) j 0 ≡ getD xs j 0
+  byte-alone j h = List·getD-append xs zs 0 j (omega (arith, count-in))
 
+  -- DL,
+  length-alone : dataLength (xs ++ zs) ≡ dataLength xs
+  length-alone = rw (byte-alone 7 (omega arith), byte-alone 8 (omega arith))
+
+  -- and where the data block opens.
   offset-alone : dataOffset (xs ++ zs) ≡ dataOffset xs
-  offset-alone = offset-same xs ys zs ends ∙ sym (offset-same xs ys [] ends) ∙ ap dataOffset (append-nil xs)
+  unfolding dataOffset
+  offset-alone = rw (byte-alone 6 (omega arith))
 
 -- A data block where DL = 0, which opens at o and ends with xs, takes three bytes from what follows if it has seven in xs and FF FF CC follows.
 empty-taken : (xs ys zs : List ℕ) (o : ℕ) → o + emptySize (drop o (xs ++ ys)) ≡ length xs
