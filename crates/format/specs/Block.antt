@@ -26,7 +26,7 @@ dataOffset r = keyOffset + keySize (keyLength r)
 abbrev pub emptyClosing : List ℕ
 emptyClosing = 0xFF ∷ 0xFF ∷ 0xCC ∷ []
 
--- What such a block takes at the front of c: ten bytes if FF FF CC stands in c behind the place of the 00, whatever that holds; else seven.
+-- What such a block takes, where c is the rest of its span from the block's opening on: ten bytes if FF FF CC stands in c behind the place of the 00, whatever that holds; else seven.
 unfoldable pub emptySize : List ℕ → ℕ
 emptySize c = pick (startsWith emptyClosing (drop emptyBlock c)) closedEmptyBlock emptyBlock
 

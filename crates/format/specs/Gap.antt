@@ -10,8 +10,8 @@ use Rattle.format.specs.Opening.{startsWith}
 use Rattle.format.specs.Count.{dataLength}
 use Rattle.format.specs.Block.{dataOffset, emptyClosing}
 
--- How many of the bytes z are the block's that stand behind xs, where xs goes from the end of a count's opening to the end of the block: three where DL = 0, the block has
--- seven bytes in xs and z starts with FF FF CC; else none.
+-- How many bytes its data block takes from z, where xs goes from the end of a count's opening to the end of the block and z follows: three where DL = 0, the block has seven bytes in xs
+-- and z starts with FF FF CC; else none.
 unfoldable pub takenFrom : List ℕ → List ℕ → ℕ
 takenFrom xs z =
     pick (eqb (dataLength xs) 0 && (eqb (length xs) (dataOffset xs + emptyBlock) && startsWith emptyClosing z)) closingLength 0

@@ -55,7 +55,8 @@ fn data_offset(r: &[u8]) -> usize
     }
 }
 
-// What a data block where DL = 0 takes at the front of c: ten bytes if FF FF CC stands in c behind the place of the 00, whatever that holds; else seven.
+// What a data block where DL = 0 takes, where c is the rest of its span from the block's opening on: ten bytes if FF FF CC stands in c behind the place of the 00, whatever that holds;
+// else seven.
 fn empty_size(c: &[u8]) -> usize
     ensures { λ n. ⌜ n ≡ emptySize (now (c .entry)) ⌝ }
 {

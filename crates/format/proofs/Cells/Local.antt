@@ -1,9 +1,9 @@
 -- What is looked at before the end of xs does not see what follows xs.
-use mathlib.Core.Path.{_≡_, sym, _∙_}
-use Prim.Native.Nat.{ℕ, _+_, _≤_, _<_}
+use mathlib.Core.Path.{_≡_}
+use Prim.Native.Nat.{ℕ, _+_, _≤_}
 use native.Mathlib.Omega.{arith}
 use mathlib.Core.List.{List, [], _∷_, _++_}
-use lib.ListN.{length, take, drop, getD, length-drop, List·getD-append}
+use lib.ListN.{length, take, drop, length-drop}
 use lib.Seq.{take-append-le, drop-append-le, drop-drop}
 use Rattle.crc.specs.Check.{checkBytes}
 use Rattle.format.specs.Opening.{startsWith, plainOpening, closing, closedAfter, checkFollows, closingFollows}
@@ -12,10 +12,6 @@ use Rattle.format.proofs.Cells.Opening.{starts-with-append}
 use Rattle.format.proofs.Cells.Field.{length-closing}
 
 module _ (xs ys zs : List ℕ) where
-  -- A cell.
-  pub byte-local : (j : ℕ) → j < length xs → getD (xs ++ zs) j 0 ≡ getD (xs ++ ys) j 0
-  byte-local j h = List·getD-append xs zs 0 j h ∙ sym (List·getD-append xs ys 0 j h)
-
   -- Whether the list o stands at place j.
   pub starts-local : (o : List ℕ) (j : ℕ) → j + length o ≤ length xs → startsWith o (drop j (xs ++ zs)) ≡ startsWith o (drop j (xs ++ ys))
   starts-local o j h =

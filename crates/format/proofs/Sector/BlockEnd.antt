@@ -15,7 +15,7 @@ use Rattle.format.specs.Block.{keyOffset, keySize, dataOffset, emptyClos
 use Rattle.format.specs.Gap.{takenFrom}
 use Rattle.format.specs.Written.{writtenData, dataSize}
 use Rattle.base.proofs.Tests.{cases, and-right}
-use Rattle.format.proofs.Cells.Local.{byte-local, starts-local}
+use Rattle.format.proofs.Cells.Local.{starts-local}
 use Rattle.format.proofs.Sector.Sizes.{key-size-least, key-size-most}
 
 -- A data block where DL = 0 takes at least seven bytes,
@@ -91,32 +91,15 @@ module _ (r : List ℕ) where
   end-written [] R e w f = rw (e, w, f)
   end-written (x ∷ xs) R e w f = rw (e, eqb·suc-zero (length xs))
 
--- The blocks end within xs: what follows xs does not matter to the count and to where the data block opens.
-module _ (xs ys zs : List ℕ) (ends : blockEnd (xs ++ ys) ≤ length xs) where
-  -- The least that lies before the end.
-  pub count-in : 30 ≤ length xs
-  count-in = omega (arith, data-in-end (xs ++ ys), key-in-offset (xs ++ ys))
-
-  -- The bytes of the count.
-  pub byte-same : (j : ℕ) → j < 30 → getD (xs ++ zs) j 0 ≡ getD (xs ++ ys) j 0
-  byte-same j h = byte-local xs ys zs j (omega (arith, count-in))
-
-  -- KL.
-  pub key-length-same : keyLength (xs ++ zs) ≡ keyLength (xs ++ ys)
-  key-length-same = byte-same 6 (omega arith)
-
-  -- DL.
-  pub data-length-same : dataLength (xs ++ zs) ≡ dataLength (xs ++ ys)
-  data-length-same = rw (byte-same 7 (omega arith), byte-same 8 (omega arith))
-
-  -- Where the data block opens.
-  pub offset-same : dataOffset (xs ++ zs) ≡ dataOffset (xs ++ ys)
-  unfolding dataOffset
-  offset-same = rw key-length-same
-
-  -- They are those of xs alone: its bytes,
+-- What follows xs does not matter to the count in it:
+module _ (xs zs : List ℕ) (enough : 30 ≤ length xs) where
+  -- its bytes,
   byte-alone : (j : ℕ) → j < 30 → getD (xs ++ zs) j 0 ≡ getD xs j 0
-  byte-alone j h = List·getD-append xs zs 0 j (omega (arith, count-in))
+  byte-alone j h = List·getD-append xs zs 0 j (omega arith)
+
+  -- KL,
+  key-length-alone : keyLength (xs ++ zs) ≡ keyLength xs
+  key-length-alone = byte-alone 6 (omega arith)
 
   -- DL,
   length-alone : dataLength (xs ++ zs) ≡ dataLength xs
@@ -125,7 +108,29 @@ module _ (xs ys zs : List ℕ) (ends : blockEnd (xs ++ ys) ≤ length xs) where
   -- and where the data block opens.
   offset-alone : dataOffset (xs ++ zs) ≡ dataOffset xs
   unfolding dataOffset
-  offset-alone = rw (byte-alone 6 (omega arith))
+  offset-alone = rw key-length-alone
+
+-- The blocks end within xs: whether ys or zs follows xs does not matter.
+module _ (xs ys zs : List ℕ) (ends : blockEnd (xs ++ ys) ≤ length xs) where
+  -- The least that lies before the end.
+  pub count-in : 30 ≤ length xs
+  count-in = omega (arith, data-in-end (xs ++ ys), key-in-offset (xs ++ ys))
+
+  -- The bytes of the count.
+  pub byte-same : (j : ℕ) → j < 30 → getD (xs ++ zs) j 0 ≡ getD (xs ++ ys) j 0
+  byte-same j h = byte-alone xs zs count-in j h ∙ sym (byte-alone xs ys count-in j h)
+
+  -- KL.
+  pub key-length-same : keyLength (xs ++ zs) ≡ keyLength (xs ++ ys)
+  key-length-same = key-length-alone xs zs count-in ∙ sym (key-length-alone xs ys count-in)
+
+  -- DL.
+  pub data-length-same : dataLength (xs ++ zs) ≡ dataLength (xs ++ ys)
+  data-length-same = length-alone xs zs count-in ∙ sym (length-alone xs ys count-in)
+
+  -- Where the data block opens.
+  pub offset-same : dataOffset (xs ++ zs) ≡ dataOffset (xs ++ ys)
+  offset-same = offset-alone xs zs count-in ∙ sym (offset-alone xs ys count-in)
 
 -- A data block where DL = 0, which opens at o and ends with xs, takes three bytes from what follows if it has seven in xs and FF FF CC follows.
 empty-taken : (xs ys zs : List ℕ) (o : ℕ) → o + emptySize (drop o (xs ++ ys)) ≡ length xs
@@ -148,9 +153,9 @@ empty-taken xs ys zs o e =
 pub end-taken : (xs ys zs : List ℕ) → blockEnd (xs ++ ys) ≡ length xs → blockEnd (xs ++ zs) ≡ length xs + takenFrom xs zs
 unfolding blockEnd takenFrom
 end-taken xs ys zs ends =
-    let l : blockEnd (xs ++ ys) ≤ length xs = omega arith in
-    let before = rw (length-alone xs ys ys l, offset-alone xs ys ys l) at ends in
-    rw (length-alone xs ys zs l, offset-alone xs ys zs l)
+    let l : 30 ≤ length xs = count-in xs ys zs (omega arith) in
+    let before = rw (length-alone xs ys l, offset-alone xs ys l) at ends in
+    rw (length-alone xs zs l, offset-alone xs zs l)
     (cases (eqb (dataLength xs) 0)
     (λ e. rw e (empty-taken xs ys zs (dataOffset xs) (rw e at before)))
     (λ e. rw e (omega (arith, rw e at before))))

@@ -3,7 +3,7 @@
 use mathlib.Core.Path.{_≡_, refl, sym, ap, ap₂, _∙_}
 use Prim.Native.Nat.{ℕ, suc, _+_, _≤_}
 use native.Mathlib.Omega.{arith}
-use mathlib.Core.Bool.{true, false}
+use mathlib.Core.Bool.{Bool, true, false}
 use mathlib.Core.List.{List, [], _∷_, _++_, map}
 use lib.ListN.{length, take}
 use lib.Seq.{drop-at}
@@ -16,7 +16,7 @@ use Rattle.format.specs.Home.{Home, firstCountPlace}
 use Rattle.format.specs.Count.{Settled, unsettled}
 use Rattle.format.specs.Block.{leastGap}
 use Rattle.format.specs.Span.{joined, none, cleanSpan, cleanSpans, spans}
-use Rattle.format.specs.Sector.{Sector, isFirst, settle}
+use Rattle.format.specs.Sector.{Sector, isFirst, settle, readSpan}
 use Rattle.format.specs.Accept.{Placed, readSpans, placedFrom, judgeNumbers, Accepted, spansOf, firstCountEnd, judgeBehind, acceptCells, endOf, sectorsOf}
 use Rattle.base.proofs.Tests.{cases, and-both, and-make}
 use Rattle.format.proofs.Spans.Shape.{Shape, FirstReaches}
@@ -83,7 +83,12 @@ clean-gaps i (g ∷ gs) (z ∷ zs) v c o =
     let k = and-both (cleanSpan i g) (cleanSpans (suc i) gs) c in
     and-make (clean-regapped i g z (shape-head i g gs v) (k .0) (o .1)) (clean-gaps (suc i) gs zs (shape-tail i g gs v) (k .1) (o .2))
 
--- and are as long as before: in the first of them there is room for a count.
+-- and are as long as before,
+length-gap : (h : Home) (i : ℕ) (x : Settled) (p : ℕ) (last : Bool) (g z : List ℕ) (s : Sector) → readSpan h i x p last g ≡ good s → blockPlace i g + length z ≡ length g
+    → length (regapped i g z) ≡ length g
+length-gap h i x p last g z s e l = omega (arith, length-regapped i g z (omega (arith, place-in i g h x p last s e)))
+
+-- so that in the first of them there is room for a count.
 reaches-gaps : (h : Home) (i : ℕ) (x : Settled) (p n : ℕ) (gs zs : List (List ℕ)) (ss : List Sector) → Reads h i x p gs ss → OtherGaps i gs zs → FirstReaches n gs
     → FirstReaches n (withGaps i gs zs)
 unfolding withGaps
@@ -91,8 +96,8 @@ reaches-gaps h i x p n [] zs ss e o l = tt
 reaches-gaps h i x p n (g ∷ gs) [] ss e o l = l
 reaches-gaps h i x p n (g ∷ gs) (z ∷ zs) [] e o l = absurd e
 reaches-gaps h i x p n (g ∷ []) (z ∷ zs) (s ∷ ss) e o l = tt
-reaches-gaps h i x p n (g ∷ k ∷ gs) (z ∷ []) (s ∷ ss) e o l = omega (arith, length-regapped i g z (omega (arith, place-in i g h x p false s (e .0))))
-reaches-gaps h i x p n (g ∷ k ∷ gs) (z ∷ y ∷ zs) (s ∷ ss) e o l = omega (arith, length-regapped i g z (omega (arith, place-in i g h x p false s (e .0))))
+reaches-gaps h i x p n (g ∷ k ∷ gs) (z ∷ []) (s ∷ ss) e o l = omega (arith, length-gap h i x p false g z s (e .0) (o .0))
+reaches-gaps h i x p n (g ∷ k ∷ gs) (z ∷ y ∷ zs) (s ∷ ss) e o l = omega (arith, length-gap h i x p false g z s (e .0) (o .0))
 
 -- There are as many as before.
 length-gaps : (i : ℕ) (gs zs : List (List ℕ)) → length (withGaps i gs zs) ≡ length gs
@@ -114,7 +119,7 @@ read-gaps h i x p [] zs (s ∷ ss) e o = absurd e
 read-gaps h i x p (g ∷ gs) [] ss e o = reads-read h i x p (g ∷ gs) ss e
 read-gaps h i x p (g ∷ gs) (z ∷ zs) [] e o = absurd e
 read-gaps h i x p (g ∷ gs) (z ∷ zs) (s ∷ ss) e o =
-    let size : length (regapped i g z) ≡ length g = omega (arith, length-regapped i g z (omega (arith, place-in i g h x p (none gs) s (e .0)))) in
+    let size = length-gap h i x p (none gs) g z s (e .0) (o .0) in
     let ih = read-gaps h (suc i) (settle x s) (p + length g) gs zs ss (e .1) (o .2) in
     rw (none-gaps (suc i) gs zs, size, read-regapped i g z h x p p (none gs) (none gs) s (e .0))
     (cases (leb (takenIn i g z + leastGap (none gs)) (length z))
@@ -129,7 +134,7 @@ places-gaps h i x p [] zs ss e o = refl
 places-gaps h i x p (g ∷ gs) [] ss e o = refl
 places-gaps h i x p (g ∷ gs) (z ∷ zs) [] e o = absurd e
 places-gaps h i x p (g ∷ gs) (z ∷ zs) (s ∷ ss) e o =
-    let size : length (regapped i g z) ≡ length g = omega (arith, length-regapped i g z (omega (arith, place-in i g h x p (none gs) s (e .0)))) in
+    let size = length-gap h i x p (none gs) g z s (e .0) (o .0) in
     rw size (ap (λ (ns : List ℕ). p ∷ ns) (places-gaps h (suc i) (settle x s) (p + length g) gs zs ss (e .1) (o .2)))
 
 -- and their blocks end later by what they take.
@@ -141,7 +146,7 @@ ends-gaps h i x p (g ∷ gs) [] ss e o = refl
 ends-gaps h i x p (g ∷ gs) (z ∷ zs) [] e o = absurd e
 ends-gaps h i x p (g ∷ gs) (z ∷ zs) (s ∷ ss) e o =
     let inside : blockPlace i g ≤ length g = omega (arith, place-in i g h x p (none gs) s (e .0)) in
-    let size : length (regapped i g z) ≡ length g = omega (arith, length-regapped i g z inside) in
+    let size = length-gap h i x p (none gs) g z s (e .0) (o .0) in
     let f : s .first ≡ isFirst i = read-first h i x p (none gs) g s (e .0) in
     let end : endOf (record { place = p; span = regapped i g z; sector = s }) ≡ endOf (record { place = p; span = g; sector = s }) + takenIn i g z =
     omega (arith, end-placed i p (regapped i g z) s f, end-placed i p g s f, place-regapped i g z inside) in

@@ -380,6 +380,36 @@ fn wanted_blanks() {
     assert!(seen[0] > 700, "{seen:?}");
 }
 
+/// Two buffers of noise for a track of this length.
+fn noise(length: usize) -> (Vec<u8>, Vec<u8>) {
+    (vec![0xA5; length], vec![0x5A; length])
+}
+
+/// What a call that writes into noise answered and left; a refusal leaves the noise.
+fn left(done: Answer, new: Vec<u8>, new_marks: Vec<u8>) -> (Answer, Vec<u8>, Vec<u8>) {
+    if done.number != 0 {
+        assert!(new.iter().all(|&byte| byte == 0xA5));
+        assert!(new_marks.iter().all(|&mark| mark == 0x5A));
+    }
+    (done, new, new_marks)
+}
+
+/// What Add answers and leaves.
+pub fn addition(track: &[u8], marks: &[u8], w: &WantedAdd) -> (Answer, Vec<u8>, Vec<u8>) {
+    let (mut new, mut new_marks) = noise(track.len());
+    let done = add(
+        track,
+        marks,
+        &mut new,
+        &mut new_marks,
+        w.b7,
+        w.s,
+        &w.key,
+        &w.data,
+    );
+    left(done, new, new_marks)
+}
+
 #[test]
 fn wanted_additions() {
     let mut seen = [0; 17];
@@ -390,17 +420,7 @@ fn wanted_additions() {
             sound(seed)
         };
         let w = wanted_add(seed, &track, &marks);
-        let (mut new, mut new_marks) = (vec![0xA5; track.len()], vec![0x5A; track.len()]);
-        let done = add(
-            &track,
-            &marks,
-            &mut new,
-            &mut new_marks,
-            w.b7,
-            w.s,
-            &w.key,
-            &w.data,
-        );
+        let (done, new, new_marks) = addition(&track, &marks, &w);
         seen[usize::from(done.number)] += 1;
         if done.number == 0 {
             let (old, records) = (listed(&track, &marks), listed(&new, &new_marks));
@@ -409,9 +429,6 @@ fn wanted_additions() {
             let (_, key) = find(&new, &new_marks, w.s, Part::Key);
             let (_, data) = find(&new, &new_marks, w.s, Part::Data);
             assert_eq!((&new[key], &new[data]), (&w.key[..], &w.data[..]));
-        } else {
-            assert!(new.iter().all(|&byte| byte == 0xA5));
-            assert!(new_marks.iter().all(|&mark| mark == 0x5A));
         }
     }
     for number in [0, 13, 14, 15] {
@@ -430,15 +447,11 @@ fn contents(track: &[u8], marks: &[u8]) -> Vec<(u8, u8, Vec<u8>, Vec<u8>)> {
     listed(track, marks).iter().map(contents_of).collect()
 }
 
-/// What Correct answers and leaves; a refusal leaves the buffers as they were.
+/// What Correct answers and leaves.
 pub fn correction(track: &[u8], marks: &[u8], w: &WantedCorrect) -> (Answer, Vec<u8>, Vec<u8>) {
-    let (mut new, mut new_marks) = (vec![0xA5; track.len()], vec![0x5A; track.len()]);
+    let (mut new, mut new_marks) = noise(track.len());
     let done = correct(track, marks, &mut new, &mut new_marks, w.s, &w.key, &w.data);
-    if done.number != 0 {
-        assert!(new.iter().all(|&byte| byte == 0xA5));
-        assert!(new_marks.iter().all(|&mark| mark == 0x5A));
-    }
-    (done, new, new_marks)
+    left(done, new, new_marks)
 }
 
 #[test]

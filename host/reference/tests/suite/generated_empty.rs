@@ -1,7 +1,7 @@
 //! Generated tracks: the data blocks of DL = 0, and how often each kind of them is met.
 
 use crate::common::*;
-use crate::generated::{both_orders, correction};
+use crate::generated::{addition, both_orders, correction};
 use reference::generate::*;
 use reference::layout::{first_count, later_count, marked_opening_at, Count, Fields};
 use reference::*;
@@ -257,22 +257,6 @@ fn ends(track: &[u8], marks: &[u8]) -> Vec<(u8, usize, bool)> {
         ends.push((next.s, blocks.end, ten));
     }
     ends
-}
-
-/// Add into noise.
-fn addition(track: &[u8], marks: &[u8], w: &WantedAdd) -> (Answer, Vec<u8>, Vec<u8>) {
-    let (mut new, mut new_marks) = (vec![0xA5; track.len()], vec![0x5A; track.len()]);
-    let done = add(
-        track,
-        marks,
-        &mut new,
-        &mut new_marks,
-        w.b7,
-        w.s,
-        &w.key,
-        &w.data,
-    );
-    (done, new, new_marks)
 }
 
 #[test]
