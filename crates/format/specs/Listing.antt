@@ -1,5 +1,5 @@
 -- List: an accepted track's sectors as records for the caller's list.
-use Prim.Native.Nat.{ℕ, _+_}
+use Prim.Native.Nat.{ℕ, _+_, _-_}
 use mathlib.Core.List.{List, map}
 use lib.ListN.{length}
 use lib.Dec.{leb, eqb}
@@ -9,9 +9,9 @@ use Rattle.format.specs.Answer.{lentWrong}
 use Rattle.format.specs.Judged.{Judged, good, then, require}
 use Rattle.format.specs.Block.{keyOffset, keySize}
 use Rattle.format.specs.Sector.{openingLength}
-use Rattle.format.specs.Accept.{Placed, accept}
+use Rattle.format.specs.Accept.{Placed, endOf, accept}
 
--- A sector record: flag, S, KL, DL and the places of the information, the byte after the block's opening.
+-- A sector record: flag, S, KL, DL, the places of the information, the byte after the block's opening, where the data block ends, and the gap behind it.
 pub record Listed : Type 0 where
   pub flag : ℕ
   pub number : ℕ
@@ -20,10 +20,18 @@ pub record Listed : Type 0 where
   -- 0 where KL = 0.
   pub keyPlace : ℕ
   pub dataPlace : ℕ
+  -- The place after the last byte of the data block.
+  pub end : ℕ
+  -- How many bytes follow it up to the next count's opening, or to index behind the last sector.
+  pub gap : ℕ
 
 -- The place of the first block's information, behind the count's opening, the count, a gap and its own opening.
 abbrev pub firstInfoPlace : Placed → ℕ
 firstInfoPlace x = x .place + openingLength (x .sector .first) + keyOffset + plainLength
+
+-- The place behind the span of a sector: where the next count opens, or index behind the last.
+abbrev pub nextPlace : Placed → ℕ
+nextPlace x = x .place + length (x .span)
 
 -- The record of a sector.
 unfoldable pub listed : Placed → Listed
@@ -36,6 +44,8 @@ listed x =
       dataLength = length (x .sector .dataBytes);
       keyPlace = pick (eqb k 0) 0 (firstInfoPlace x);
       dataPlace = firstInfoPlace x + keySize k;
+      end = endOf x;
+      gap = nextPlace x - endOf x;
     }
 
 -- No track holds more sectors.

@@ -1,6 +1,6 @@
 -- The records that are come to from sector 0's count on are those of List, and their number is at most the list's length.
 use mathlib.Core.Path.{_≡_, refl, sym, ap, ap₂, _∙_, subst}
-use Prim.Native.Nat.{ℕ, zero, suc, _≤_}
+use Prim.Native.Nat.{ℕ, zero, suc, _+_, _-_, _≤_}
 use native.Mathlib.Omega.{arith}
 use mathlib.Core.List.{List, [], _∷_, _++_, map}
 use lib.ListN.{length, drop}
@@ -10,8 +10,8 @@ use Rattle.format.specs.Answer.{Answer}
 use Rattle.format.specs.Judged.{Judged, good, refused}
 use Rattle.format.specs.Lent.{cells}
 use Rattle.format.specs.Home.{firstCountPlace}
-use Rattle.format.specs.Accept.{Placed, Accepted, accept}
-use Rattle.format.specs.Listing.{Listed, listed, mostSectors, list}
+use Rattle.format.specs.Accept.{Placed, endOf, Accepted, accept}
+use Rattle.format.specs.Listing.{Listed, nextPlace, listed, mostSectors, list}
 use Rattle.base.proofs.Tests.{cases}
 use Rattle.format.proofs.Track.Sectors.{list-suffices}
 use Rattle.format.proofs.Track.ListAccepted.{list-records, list-number, list-refuses, list-short}
@@ -37,8 +37,10 @@ pub record Come (t m : List ℕ) (p : ℕ) (x : Placed) (xs : List Placed) : Typ
 pub come : (t m : List ℕ) (p : ℕ) (x : Placed) (xs : List Placed) → SectorsFrom t m p (x ∷ xs) → Come t m p x xs
 unfolding listed
 come t m p x xs (v, r) =
+    let stop : sectorAt p (cells t m) .next ≡ nextPlace x = v .next-is ∙ ap (λ (q : ℕ). q + length (x .span)) (sym (v .place-is)) in
+    let gap-is : sectorAt p (cells t m) .next - sectorAt p (cells t m) .end ≡ nextPlace x - endOf x = ap₂ (λ (n e : ℕ). n - e) stop (v .end-is) in
     record {
-      listed-is = λ i. record { flag = v .flag-is i; number = v .number-is i; keyLength = v .key-length-is i; dataLength = v .data-length-is i; keyPlace = v .key-place-is i; dataPlace = v .data-place-is i };
+      listed-is = λ i. record { flag = v .flag-is i; number = v .number-is i; keyLength = v .key-length-is i; dataLength = v .data-length-is i; keyPlace = v .key-place-is i; dataPlace = v .data-place-is i; end = v .end-is i; gap = gap-is i };
       later = subst (λ (k : ℕ). SectorsFrom t m k xs) (sym (v .next-is)) r;
     }
 

@@ -1,5 +1,5 @@
 -- List into the caller's records: which are filled, with what, and what stays.
-use Prim.Native.Nat.{ℕ}
+use Prim.Native.Nat.{ℕ, _-_}
 use mathlib.Core.List.{List, [], _++_, map}
 use lib.ListN.{length, drop}
 use lib.Dec.{leb}
@@ -25,6 +25,8 @@ asListed s =
       dataLength = s .«data_length»;
       keyPlace = s .«key_place»;
       dataPlace = s .«data_place»;
+      end = s .end;
+      gap = s .gap;
     }
 
 -- What a list of them says.
@@ -49,6 +51,8 @@ asSector v =
       «data_length» = v .dataLength;
       «key_place» = v .keyPlace;
       «data_place» = v .dataPlace;
+      end = v .end;
+      gap = v .next - v .end;
     }
 
 -- The record of the sector whose count opens at place p of the cells c, and the place at which the next count opens.
@@ -77,4 +81,4 @@ begun n t m = record { listing = asListing (list n t m); first = firstFor n t m 
 
 -- A record of a list that no sector has filled yet.
 abbrev pub empty : Sector
-empty = record { flag = 0; number = 0; «key_length» = 0; «data_length» = 0; «key_place» = 0; «data_place» = 0 }
+empty = record { flag = 0; number = 0; «key_length» = 0; «data_length» = 0; «key_place» = 0; «data_place» = 0; end = 0; gap = 0 }

@@ -1,5 +1,6 @@
 // List: an accepted track's sectors as records in a list that the caller lends.
 ghost use mathlib.Core.Path.{_≡_};
+ghost use Prim.Native.Nat.{_-_};
 ghost use lib.ListN.{length, replicate};
 ghost use Rattle.format.specs.Answer.{asAnswer};
 ghost use Rattle.format.specs.Judged.{answerOf};
@@ -8,7 +9,7 @@ ghost use Rattle.format.specs.Listing.{mostSectors, list};
 ghost use Rattle.listing.specs.Filling.{recordsOf, asRecords, filled, recordAt, refusedBy, begun, empty};
 use format::layout::HOME_TO_COUNT;
 
-// A sector record: flag, S, KL, DL and the places of the information, the key's 0 where KL = 0.
+// A sector record: flag, S, KL, DL, the places of the information, the key's 0 where KL = 0, the place after the data block's last byte, and how many bytes of gap follow it.
 pub struct Sector {
     pub flag: u8,
     pub number: u8,
@@ -16,6 +17,8 @@ pub struct Sector {
     pub data_length: usize,
     pub key_place: usize,
     pub data_place: usize,
+    pub end: usize,
+    pub gap: usize,
 }
 
 // The answer, and the number of records that are filled: 0 where the list or the track is refused.
@@ -36,6 +39,16 @@ pub struct Begun {
     pub first: usize,
 }
 
+// How many bytes stand between two places: none where the second is not behind the first.
+fn bytes_between(from: usize, to: usize) -> usize
+    ensures { λ n. ⌜ n ≡ to - from ⌝ }
+{
+    if to < from {
+        return 0;
+    }
+    to - from
+}
+
 // The record of the sector whose count opens at place p.
 fn record_at(track: &[u8], marks: &[u8], p: usize) -> SectorNext
     ensures { λ r. ⌜ r ≡ recordAt (cells (now (track .entry)) (now (marks .entry))) p ⌝ }
@@ -48,6 +61,8 @@ fn record_at(track: &[u8], marks: &[u8], p: usize) -> SectorNext
         data_length: s.data_length,
         key_place: s.key_place,
         data_place: s.data_place,
+        end: s.end,
+        gap: bytes_between(s.end, s.next),
     };
     SectorNext {
         sector,
@@ -121,6 +136,8 @@ pub fn list_all(track: &[u8], marks: &[u8]) -> Filled
         data_length: 0,
         key_place: 0,
         data_place: 0,
+        end: 0,
+        gap: 0,
     };
     let mut records = [none; 67];
     let listing = list(track, marks, &mut records);

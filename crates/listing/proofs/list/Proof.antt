@@ -323,7 +323,7 @@ module _ {M : Type 1} (𝓤 : URA M) (H : Heap 𝓤) (A : Atoms 𝓤) (W : Given
           -- The address of out[i].
           assigns ! (bin ! (load ! (from ! (stop !)) (look ! 3 refl)) (lit ! tt) (record { fits = byte-fits less })) (from ! (stop !)) (init ! 7 refl (tt, record { fits = byte-fits less })) $
           assigns ! (bin ! (load ! (from ! (fld ! refl (stop !))) (look-in ! 11 (sub ! 0 refl (whole !)))) (load ! (from ! (stop !)) (look ! 7 refl)) tt) (from ! (stop !)) (init ! 8 refl (tt, tt)) $
-          rewrite ! 8 (λ (p : ℕ). ‵ (fat fullShare tyPtr l₁₂ 0 (vptr b p))) (sym (place-is 40 o (s .i))) refl $
+          rewrite ! 8 (λ (p : ℕ). ‵ (fat fullShare tyPtr l₁₂ 0 (vptr b p))) (sym (place-is 56 o (s .i))) refl $
           -- The record is stored in out[i].
           move ! (2 ∷ []) $ elem-out ! R (Is R) (shows 𝓤 H A R) (LL.vals S.the-type S′.the-laws) (LL.tells S.the-type S′.the-laws) fullShare (s .xs) (s .i) (sec (s .p)) b o (within less) (λ _.
           -- [out[i]; what it owns; the other records; tokens; track and marks; i (5); at; x (7); test; offset; address (10); ..]
@@ -346,7 +346,7 @@ module _ {M : Type 1} (𝓤 : URA M) (H : Heap 𝓤) (A : Atoms 𝓤) (W : Given
           isL : Is N.the-row (a .listing) (N′.lowered (a .listing) ∷ [])
           isL = LL.owed B.the-type B′.the-laws a _ isA .0
 
-          bytes : length ys * 40 < 2 ^ 63
+          bytes : length ys * 56 < 2 ^ 63
           bytes = room .1
 
           lt : Holds (ltb (s .i) n) → s .i < n
@@ -355,7 +355,7 @@ module _ {M : Type 1} (𝓤 : URA M) (H : Heap 𝓤) (A : Atoms 𝓤) (W : Given
           within : Holds (ltb (s .i) n) → s .i < length (s .xs)
           within less = omega (arith, lt less, n-within, s .long)
 
-          byte-fits : Holds (ltb (s .i) n) → s .i * 40 < 2 ^ 64
+          byte-fits : Holds (ltb (s .i) n) → s .i * 56 < 2 ^ 64
           byte-fits less = omega (arith, lt less, n-within, bytes)
 
           next-fits : Holds (ltb (s .i) n) → s .i + 1 < 2 ^ 64

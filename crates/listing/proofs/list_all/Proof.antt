@@ -296,7 +296,7 @@ module _ {M : Type 1} (𝓤 : URA M) (H : Heap 𝓤) (A : Atoms 𝓤) (W : Given
         enter ! C Λ code.function (vt ∷ vm ∷ []) _ $
         alloc1 ! (λ l₀. alloc1 ! (λ l₁. alloc1 ! (λ l₂. alloc1 ! (λ l₃. alloc1 ! (λ l₄. alloc1 ! (λ l₅. alloc1 ! (λ l₆. alloc1 ! (λ l₇. alloc1 ! (λ l₈. alloc0 ! $ params1 ! $
         pass1 ! (init ! 14 refl (shr-slice-lawful 𝓤 H A W (named 0) κ₀ u8 .typed tr (vt ∷ []) p .0)) $ pass1 ! (init ! 12 refl (shr-slice-lawful 𝓤 H A W (named 1) κ₁ u8 .typed mk (vm ∷ []) p′ .0)) $ pass0 ! $
-        assigns ! (agg ! (and-then ! (lit ! tt) (and-then ! (lit ! tt) (and-then ! (lit ! tt) (and-then ! (lit ! tt) (and-then ! (lit ! tt) (and-then ! (lit ! tt) (no-more !)))))))) (from ! (stop !)) (init ! 10 refl (LL.lawful S.the-type S′.the-laws 𝓤 H A W .typed empty (S′.lowered empty ∷ []) is-empty .0)) $
+        assigns ! (agg ! (and-then ! (lit ! tt) (and-then ! (lit ! tt) (and-then ! (lit ! tt) (and-then ! (lit ! tt) (and-then ! (lit ! tt) (and-then ! (lit ! tt) (and-then ! (lit ! tt) (and-then ! (lit ! tt) (no-more !)))))))))) (from ! (stop !)) (init ! 10 refl (LL.lawful S.the-type S′.the-laws 𝓤 H A W .typed empty (S′.lowered empty ∷ []) is-empty .0)) $
         assigns ! (rep ! 67 (load ! (from ! (stop !)) (look ! 10 refl))) (from ! (stop !)) (init ! 8 refl (array-typed R (LL.lawful S.the-type S′.the-laws 𝓤 H A W .typed) 67 xs (v₀ ∷ []) is₀ .0)) $
         assigns ! (addr ! (from ! (stop !))) (from ! (stop !)) (init ! 4 refl (tt, tt)) $
         assigns ! (agg ! (and-then ! (load ! (from ! (stop !)) (look ! 4 refl)) (and-then ! (lit ! tt) (no-more !)))) (from ! (stop !)) (init ! 2 refl (tt, (tt, (record { fits = lit< tt }, tt)))) $
@@ -305,7 +305,7 @@ module _ {M : Type 1} (𝓤 : URA M) (H : Heap 𝓤) (A : Atoms 𝓤) (W : Given
         calling l₀ l₁ l₂ l₃ l₄ l₅ l₆ l₇ l₈))))))))))
       where
         is-empty : Is R empty (S′.lowered empty ∷ [])
-        is-empty = LL.owes S.the-type S′.the-laws empty ((refl, lit< tt), ((refl, lit< tt), ((refl, lit< tt), ((refl, lit< tt), ((refl, lit< tt), ((refl, lit< tt), tt))))))
+        is-empty = LL.owes S.the-type S′.the-laws empty ((refl, lit< tt), ((refl, lit< tt), ((refl, lit< tt), ((refl, lit< tt), ((refl, lit< tt), ((refl, lit< tt), ((refl, lit< tt), ((refl, lit< tt), tt))))))))
 
 module _ {M : Type 1} (𝓤 : URA M) (H : Heap 𝓤) (A : Atoms 𝓤) (W : Given 𝓤 H A) (mem : Memory → SProp 𝓤) (run : Routine → Fun 𝓤) where
   all-walks : (C : Calls 𝓤 H) (Λ : Loops 𝓤 H) → FmC 𝓤 H (W .laws) C → Triple 𝓤 (C #listing·list) (Fills 𝓤 H A mem run) → Walks 𝓤 H A all.ended stayed (WpFn 𝓤 H C Λ code.function) (all.clauses 𝓤 H A mem run)
