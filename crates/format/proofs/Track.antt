@@ -5,6 +5,7 @@ pub mod GapsFree
 pub mod Pairs
 pub mod Sectors
 pub mod ListAccepted
+pub mod Pieces
 pub mod TakenApart
 pub mod Numbers
 pub mod SharedAddress

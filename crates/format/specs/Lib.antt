@@ -14,6 +14,7 @@ pub mod Span
 pub mod Sector
 pub mod Accept
 pub mod Listing
+pub mod Pieces
 pub mod Candidate
 pub mod Find
 pub mod Walk
