@@ -1,6 +1,6 @@
 -- What Add writes is accepted: the old home and sectors with the new one behind them; and there is room for it exactly where its block ends in time.
 use mathlib.Core.Path.{_≡_, refl, sym, ap, _∙_, subst, subst₂}
-use Prim.Native.Nat.{ℕ, _+_, _≤_, _<_}
+use Prim.Native.Nat.{ℕ, _+_, _-_, _≤_, _<_}
 use native.Mathlib.Omega.{arith}
 use mathlib.Core.Bool.{true, false, _&&_}
 use mathlib.Core.List.{List, [], _∷_, _++_, map}
@@ -19,8 +19,9 @@ use Rattle.format.specs.Add.{judgeAbsent, addedTo, addCells}
 use Rattle.format.proofs.Base.Judged.{then-good, require-good}
 use Rattle.base.proofs.Tests.{and-both, false-true}
 use Rattle.format.proofs.Track.TakenApart.{taken-apart}
-use Rattle.format.proofs.Add.GrownSpans.{end-in}
-use Rattle.format.proofs.Add.NewSector.{newSector, lastEnd, addEnd, addNeed, added-room}
+use Rattle.format.proofs.Written.WrittenEnds.{gapsOf}
+use Rattle.format.proofs.Add.GrownSpans.{gapsBeforeLast, end-in}
+use Rattle.format.proofs.Add.NewSector.{newSector, lastEnd, lastGap, addEnd, addNeed, added-room}
 use Rattle.format.proofs.Add.AddedTrack.{Outcome, track-added}
 
 -- An accepted track has a sector, and the block of the last ends at least 13 bytes before index.
@@ -56,7 +57,7 @@ module _ (gap : ℕ → ℕ → ℕ) (c : List ℕ) (a : Accepted) (accepted : a
   add-is = rw accepted
 
   -- What Add writes is accepted: the same home, the same sectors and the new one behind them, and all up to the end of the old last block copied; the old blocks end where they
-  -- ended, the new one as it is written.
+  -- ended, the new one as it is written. The gap behind the block that was the last is the rule's, that of the new one runs to index, and the others stay.
   pub add-accepted : ((k d : ℕ) → 21 ≤ gap k d) → unmarked key ≡ true → unmarked body ≡ true → s < 256 → (e : List ℕ) → addCells gap c b7 s key body ≡ good e
       → (b : Accepted)
       × (acceptCells e ≡ good b)
@@ -65,13 +66,14 @@ module _ (gap : ℕ → ℕ → ℕ) (c : List ℕ) (a : Accepted) (accepted : a
       × (length e ≡ length c)
       × (take (lastEnd (a .sectors)) e ≡ take (lastEnd (a .sectors)) c)
       × (map endOf (b .sectors) ≡ map endOf (a .sectors) ++ addEnd gap (a .sectors) key body ∷ [])
+      × (gapsOf (b .sectors) ≡ gapsBeforeLast (a .sectors) ++ lastGap gap (a .sectors) ∷ (length c - addEnd gap (a .sectors) key body) ∷ [])
   add-accepted least uk ub n e f =
       let t = taken-apart c a accepted in
       let q = require-good (leb b7 1 && contentRight key body) wantedWrong _ e (sym add-is ∙ f) in
       let w = and-both (leb b7 1) (contentRight key body) (q .0) in
       let j = then-good (judgeAbsent (fromNumber s (a .sectors))) _ e (q .1) in
       let Goal : List ℕ → Accepted → Type 0 =
-      λ z y. judgeAbsent (fromNumber s (y .sectors)) ≡ good tt → addedTo gap z (y .home) 0 b7 s key body (y .sectors) ≡ good e → Outcome z y (newSector y b7 s key body) (addEnd gap (y .sectors) key body) e in
+      λ z y. judgeAbsent (fromNumber s (y .sectors)) ≡ good tt → addedTo gap z (y .home) 0 b7 s key body (y .sectors) ≡ good e → Outcome z y (newSector y b7 s key body) (lastGap gap (y .sectors)) (addEnd gap (y .sectors) key body) e in
       subst₂ Goal (t .whole) (t .same)
       (track-added gap least (t .head) (a .home) (t .span) (t .spans) (t .sector) (t .sectors) (t .track) b7 s key body e uk ub n (w .1) (leb-true b7 1 (w .0)))
       (j .1) (j .2)

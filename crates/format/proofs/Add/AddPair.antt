@@ -1,6 +1,6 @@
 -- Add between two pairs: what it writes is accepted, and bytes and marks up to the end of the old last block are copied.
 use mathlib.Core.Path.{_≡_, sym, ap, ap₂, _∙_}
-use Prim.Native.Nat.{ℕ, _≤_, _<_}
+use Prim.Native.Nat.{ℕ, _-_, _≤_, _<_}
 use mathlib.Core.Bool.{true}
 use mathlib.Core.List.{List, [], _∷_, _++_, map}
 use lib.ListN.{length, take}
@@ -12,7 +12,9 @@ use Rattle.format.specs.Written.{Pair, asPair}
 use Rattle.format.specs.Add.{addCells, add}
 use Rattle.format.proofs.Base.Judged.{require-good}
 use Rattle.format.proofs.Track.Pairs.{bytes-cells, marks-cells, length-bytes, length-marks, bytes-copied, marks-copied, lent-marks, accept-pair, accepted-pair, lent-length, written-pair}
-use Rattle.format.proofs.Add.NewSector.{newSector, lastEnd, addEnd}
+use Rattle.format.proofs.Written.WrittenEnds.{gapsOf}
+use Rattle.format.proofs.Add.GrownSpans.{gapsBeforeLast}
+use Rattle.format.proofs.Add.NewSector.{newSector, lastEnd, lastGap, addEnd}
 use Rattle.format.proofs.Add.AddAccepted.{add-accepted}
 
 module _ (gap : ℕ → ℕ → ℕ) (t m : List ℕ) (l k b7 s : ℕ) (key body : List ℕ) where
@@ -22,6 +24,7 @@ module _ (gap : ℕ → ℕ → ℕ) (t m : List ℕ) (l k b7 s : ℕ) (key body
   add-lent e = rw e
 
   -- What Add writes from a pair of bytes and marks that is accepted is accepted; the old blocks end where they ended, the new one as it is written.
+  -- The gap behind the block that was the last is the rule's, that of the new one runs to index, and the others stay.
   pub add-pair : ((i d : ℕ) → 21 ≤ gap i d) → unmarked t ≡ true → unmarked key ≡ true → unmarked body ≡ true → s < 256
       → (a : Accepted) → accept t m ≡ good a → (q : Pair) → add gap t m l k b7 s key body ≡ good q
       → (b : Accepted)
@@ -33,6 +36,7 @@ module _ (gap : ℕ → ℕ → ℕ) (t m : List ℕ) (l k b7 s : ℕ) (key body
       × (take (lastEnd (a .sectors)) (q .track) ≡ take (lastEnd (a .sectors)) t)
       × (take (lastEnd (a .sectors)) (q .marks) ≡ take (lastEnd (a .sectors)) m)
       × (map endOf (b .sectors) ≡ map endOf (a .sectors) ++ addEnd gap (a .sectors) key body ∷ [])
+      × (gapsOf (b .sectors) ≡ gapsBeforeLast (a .sectors) ++ lastGap gap (a .sectors) ∷ (length t - addEnd gap (a .sectors) key body) ∷ [])
   unfolding add
   add-pair least ut uk ub n a acc q f =
       let c : List ℕ = cells t m in
@@ -56,4 +60,5 @@ module _ (gap : ℕ → ℕ → ℕ) (t m : List ℕ) (l k b7 s : ℕ) (key body
         ap (take end) (sym track) ∙ bytes-copied end e c (z .5) ∙ ap (take end) (bytes-cells t m marked ut),
         ap (take end) (sym marks) ∙ marks-copied end e c (z .5) ∙ ap (take end) (marks-cells t m marked ut),
         z .6,
+        z .7 ∙ ap (λ (n : ℕ). gapsBeforeLast (a .sectors) ++ lastGap gap (a .sectors) ∷ (n - addEnd gap (a .sectors) key body) ∷ []) (w .0),
       )

@@ -1,6 +1,6 @@
 -- A track in terms of its head and spans with one more sector: it is accepted, as long as before, and copied up to the end of the old last block.
 use mathlib.Core.Path.{_≡_, refl, sym, ap, _∙_, subst}
-use Prim.Native.Nat.{ℕ, suc, _+_, _≤_, _<_}
+use Prim.Native.Nat.{ℕ, suc, _+_, _-_, _≤_, _<_}
 use native.Mathlib.Omega.{arith}
 use mathlib.Core.Bool.{true, false}
 use mathlib.Core.List.{List, [], _∷_, _++_, map, append-assoc, append-nil}
@@ -28,14 +28,14 @@ use Rattle.format.proofs.Track.AcceptedSpans.{Track, acceptedOf, track-
 use Rattle.format.proofs.Track.TakenApart.{reads-reach}
 use Rattle.format.proofs.Track.Numbers.{Fresh, Absent, judged-fresh, fresh-placed, fresh-append, judged-absent}
 use Rattle.format.proofs.Track.SharedAddress.{AllName, all-name}
-use Rattle.format.proofs.Add.GrownSpans.{grown, none-grown, reads-grown, shape-grown, clean-grown, placedAt, lastPlaced, last-name, length-placed, ends-grown, end-in, joined-grown}
-use Rattle.format.proofs.Written.WrittenEnds.{end-as-written}
+use Rattle.format.proofs.Add.GrownSpans.{grown, none-grown, reads-grown, shape-grown, clean-grown, placedAt, lastPlaced, last-name, length-placed, ends-grown, gapsBeforeLast, gaps-grown, end-in, joined-grown}
+use Rattle.format.proofs.Written.WrittenEnds.{gapsOf, end-as-written, gap-as-written}
 use Rattle.format.proofs.Written.OneBehind.{gapToIndex, spanToIndex, behind-one, gap-behind, length-behind}
-use Rattle.format.proofs.Add.NewSector.{newSector, lastEnd, added-valid, added-to-is, addEnd, addNeed, length-kept}
+use Rattle.format.proofs.Add.NewSector.{newSector, lastEnd, added-valid, added-to-is, lastGap, addEnd, addNeed, length-kept}
 
--- The track e is the accepted track c with one more sector, n, whose block ends at k.
-abbrev pub Outcome : List ℕ → Accepted → Sector → ℕ → List ℕ → Type 0
-Outcome c a n k e =
+-- The track e is the accepted track c with one more sector, n, whose block ends at k and has a gap to index; m bytes of gap stand behind the block that was the last.
+abbrev pub Outcome : List ℕ → Accepted → Sector → ℕ → ℕ → List ℕ → Type 0
+Outcome c a n m k e =
     (b : Accepted)
     × (acceptCells e ≡ good b)
     × (b .home ≡ a .home)
@@ -43,6 +43,7 @@ Outcome c a n k e =
     × (length e ≡ length c)
     × (take (lastEnd (a .sectors)) e ≡ take (lastEnd (a .sectors)) c)
     × (map endOf (b .sectors) ≡ map endOf (a .sectors) ++ k ∷ [])
+    × (gapsOf (b .sectors) ≡ gapsBeforeLast (a .sectors) ++ m ∷ (length c - k) ∷ [])
 
 -- The track of the head xs and the sectors o and os in the spans g and gs, and what Add makes of it.
 module _ (gap : ℕ → ℕ → ℕ) (least : (k d : ℕ) → 21 ≤ gap k d) (xs : List ℕ) (h : Home) (g : List ℕ) (gs : List (List ℕ)) (o : Sector) (os : List Sector)
@@ -170,12 +171,22 @@ module _ (gap : ℕ → ℕ → ℕ) (least : (k d : ℕ) → 21 ≤ gap k d) (x
   unfolding placedFrom newSector
   ends-now =
       let m : ℕ = gapAfter gap (last .sector) in
-      ends-grown h 0 unsettled p g gs o os m w new (t .reads) (unfold gapAfter in least (length (last .sector .keyBytes)) (length (last .sector .dataBytes)))
+      ends-grown h 0 unsettled p g gs o os m w new (t .reads)
       ∙ ap (λ (k : ℕ). map endOf (a .sectors) ++ k ∷ []) (end-as-written (endOf last + m) new (gapToIndex kept (length c) new))
+
+  -- The gap behind the old last block is the rule's, that of the new one runs to index, and the others stay.
+  gaps-now : gapsOf (placedFrom p spansNow ((o ∷ os) ++ new ∷ []))
+      ≡ gapsBeforeLast (a .sectors) ++ lastGap gap (a .sectors) ∷ (length c - addEnd gap (a .sectors) key body) ∷ []
+  unfolding placedFrom newSector
+  gaps-now =
+      let m : ℕ = gapAfter gap (last .sector) in
+      let r : ℕ = gapToIndex kept (length c) new in
+      gaps-grown h 0 unsettled p g gs o os m w new (t .reads)
+      ∙ ap (λ (k : ℕ). gapsBeforeLast (a .sectors) ++ m ∷ k ∷ []) (gap-as-written (endOf last + m) new r ∙ omega (arith, length-kept gap c (a .sectors) end-inside, length-written new))
 
   -- What Add writes on such a track.
   pub track-added : (e : List ℕ) → unmarked key ≡ true → unmarked body ≡ true → s < 256 → contentRight key body ≡ true → b7 ≤ 1
-      → judgeAbsent (fromNumber s (a .sectors)) ≡ good tt → addedTo gap c h 0 b7 s key body (a .sectors) ≡ good e → Outcome c a new (addEnd gap (a .sectors) key body) e
+      → judgeAbsent (fromNumber s (a .sectors)) ≡ good tt → addedTo gap c h 0 b7 s key body (a .sectors) ≡ good e → Outcome c a new (lastGap gap (a .sectors)) (addEnd gap (a .sectors) key body) e
   unfolding placedFrom
   track-added e uk ub n r hb absent f =
       let need : ℕ = addNeed gap (a .sectors) key body in
@@ -184,7 +195,7 @@ module _ (gap : ℕ → ℕ → ℕ) (least : (k d : ℕ) → 21 ≤ gap k d) (x
       let enough : length kept + length (writtenSector new) + 13 ≤ length c = omega (arith, need-now) in
       let b : Track xs h spansNow ((o ∷ os) ++ new ∷ []) = track-now (new-valid uk ub n r hb) absent enough in
       let now : List Sector = (o ∷ os) ++ new ∷ [] in
-      subst (Outcome c a new (addEnd gap (a .sectors) key body)) (good-inj (xs ++ joined spansNow) e (q .1)) (
+      subst (Outcome c a new (lastGap gap (a .sectors)) (addEnd gap (a .sectors) key body)) (good-inj (xs ++ joined spansNow) e (q .1)) (
         acceptedOf h spansNow now,
         track-accepted xs h spansNow now b,
         refl,
@@ -192,4 +203,5 @@ module _ (gap : ℕ → ℕ → ℕ) (least : (k d : ℕ) → 21 ≤ gap k d) (x
         ap length whole-now ∙ length-behind kept (length c) new enough,
         copied-now,
         ends-now,
+        gaps-now,
       )

@@ -14,12 +14,14 @@ use Rattle.format.specs.Block.{leastGap}
 use Rattle.format.specs.Span.{joined, none, cleanSpan, cleanSpans}
 use Rattle.format.specs.Sector.{Sector, settle, readSpan}
 use Rattle.format.specs.Accept.{Placed, placedFrom, endOf, lastOf}
+use Rattle.format.specs.Listing.{listed}
 use Rattle.format.proofs.Spans.Shape.{Shape}
 use Rattle.format.proofs.Spans.Cutting.{shape-cons, shape-head, shape-tail}
 use Rattle.base.proofs.Tests.{and-both, and-make}
 use Rattle.format.proofs.Sector.ReadsAs.{Reads}
 use Rattle.format.proofs.Track.SharedAddress.{AllName, MaySettle, settle-named}
 use Rattle.format.proofs.Sector.Regapped.{blockPlace, regapped, place-in, read-first, end-placed}
+use Rattle.format.proofs.Written.WrittenEnds.{gapsOf}
 use Rattle.format.proofs.Written.ShortenedSpan.{shortened, length-shortened, read-shortened, place-shortened, clean-shortened, shape-shortened}
 
 -- The spans g and gs, of which g stands in position i, the last of them with m bytes of gap, and w behind them.
@@ -94,23 +96,55 @@ last-name b p g [] s ss v = v .0
 last-name b p g (k ∷ gs) s [] v = v .0
 last-name b p g (k ∷ gs) s (t ∷ ss) v = last-name b (p + length g) k gs t ss (v .1)
 
+-- With a new gap the block of the last span ends where it ended, and the gap is the new one.
+module _ (h : Home) (i : ℕ) (x : Settled) (p : ℕ) (g : List ℕ) (s : Sector) (m : ℕ) (e : readSpan h i x p true g ≡ good s) where
+  inside : blockPlace i g ≤ length g
+  inside = omega (arith, place-in i g h x p true s e)
+
+  old-end : endOf (placedAt p g s) ≡ p + blockPlace i g
+  old-end = end-placed i p g s (read-first h i x p true g s e)
+
+  same-end : endOf (placedAt p (shortened i g m) s) ≡ endOf (placedAt p g s)
+  same-end = omega (arith, end-placed i p (shortened i g m) s (read-first h i x p true g s e), old-end, place-shortened i g m inside)
+
+  next-opening : p + length (shortened i g m) ≡ endOf (placedAt p g s) + m
+  next-opening = omega (arith, length-shortened i g m inside, old-end)
+
+  new-gap : listed (placedAt p (shortened i g m) s) .gap ≡ m
+  unfolding listed
+  new-gap = omega (arith, same-end, next-opening)
+
 -- In the grown spans the blocks of the old sectors end where they ended, and the new one opens behind the last of them and its gap.
 pub ends-grown : (h : Home) (i : ℕ) (x : Settled) (p : ℕ) (g : List ℕ) (gs : List (List ℕ)) (s : Sector) (ss : List Sector) (m : ℕ) (w : List ℕ) (n : Sector)
-    → Reads h i x p (g ∷ gs) (s ∷ ss) → 21 ≤ m
+    → Reads h i x p (g ∷ gs) (s ∷ ss)
     → map endOf (placedFrom p (grown i g gs m w) ((s ∷ ss) ++ n ∷ []))
     ≡ map endOf (placedFrom p (g ∷ gs) (s ∷ ss)) ++ endOf (placedAt (endOf (lastPlaced p g gs s ss) + m) w n) ∷ []
 unfolding grown placedFrom
-ends-grown h i x p g [] s [] m w n e l =
-    let inside : blockPlace i g ≤ length g = omega (arith, place-in i g h x p true s (e .0)) in
-    let old = end-placed i p g s (read-first h i x p true g s (e .0)) in
-    let new = end-placed i p (shortened i g m) s (read-first h i x p true g s (e .0)) in
-    let end : endOf (placedAt p (shortened i g m) s) ≡ endOf (placedAt p g s) = omega (arith, new, old, place-shortened i g m inside) in
-    let place : p + length (shortened i g m) ≡ endOf (placedAt p g s) + m = omega (arith, length-shortened i g m inside, old) in
-    ap₂ (λ (j k : ℕ). j ∷ endOf (placedAt k w n) ∷ []) end place
-ends-grown h i x p g [] s (t ∷ ss) m w n e l = absurd (e .1)
-ends-grown h i x p g (k ∷ gs) s [] m w n e l = absurd (e .1)
-ends-grown h i x p g (k ∷ gs) s (t ∷ ss) m w n e l =
-    ap (λ (js : List ℕ). endOf (placedAt p g s) ∷ js) (ends-grown h (suc i) (settle x s) (p + length g) k gs t ss m w n (e .1) l)
+ends-grown h i x p g [] s [] m w n e =
+    ap₂ (λ (j k : ℕ). j ∷ endOf (placedAt k w n) ∷ []) (same-end h i x p g s m (e .0)) (next-opening h i x p g s m (e .0))
+ends-grown h i x p g [] s (t ∷ ss) m w n e = absurd (e .1)
+ends-grown h i x p g (k ∷ gs) s [] m w n e = absurd (e .1)
+ends-grown h i x p g (k ∷ gs) s (t ∷ ss) m w n e =
+    ap (λ (js : List ℕ). endOf (placedAt p g s) ∷ js) (ends-grown h (suc i) (settle x s) (p + length g) k gs t ss m w n (e .1))
+
+-- The gaps behind all placed sectors but the last.
+abbrev pub gapsBeforeLast : List Placed → List ℕ
+gapsBeforeLast [] = []
+gapsBeforeLast (x ∷ []) = []
+gapsBeforeLast (x ∷ y ∷ xs) = listed x .gap ∷ gapsBeforeLast (y ∷ xs)
+
+-- The gaps are those of the old sectors, the new one behind the last of them, and that of the new sector.
+pub gaps-grown : (h : Home) (i : ℕ) (x : Settled) (p : ℕ) (g : List ℕ) (gs : List (List ℕ)) (s : Sector) (ss : List Sector) (m : ℕ) (w : List ℕ) (n : Sector)
+    → Reads h i x p (g ∷ gs) (s ∷ ss)
+    → gapsOf (placedFrom p (grown i g gs m w) ((s ∷ ss) ++ n ∷ []))
+    ≡ gapsBeforeLast (placedFrom p (g ∷ gs) (s ∷ ss)) ++ m ∷ listed (placedAt (endOf (lastPlaced p g gs s ss) + m) w n) .gap ∷ []
+unfolding grown placedFrom
+gaps-grown h i x p g [] s [] m w n e =
+    ap₂ (λ (j k : ℕ). j ∷ listed (placedAt k w n) .gap ∷ []) (new-gap h i x p g s m (e .0)) (next-opening h i x p g s m (e .0))
+gaps-grown h i x p g [] s (t ∷ ss) m w n e = absurd (e .1)
+gaps-grown h i x p g (k ∷ gs) s [] m w n e = absurd (e .1)
+gaps-grown h i x p g (k ∷ gs) s (t ∷ ss) m w n e =
+    ap (λ (js : List ℕ). listed (placedAt p g s) .gap ∷ js) (gaps-grown h (suc i) (settle x s) (p + length g) k gs t ss m w n (e .1))
 
 -- The block of the last sector and 13 bytes more lie in the track.
 pub end-in : (h : Home) (i : ℕ) (x : Settled) (p : ℕ) (g : List ℕ) (gs : List (List ℕ)) (s : Sector) (ss : List Sector) → Reads h i x p (g ∷ gs) (s ∷ ss)

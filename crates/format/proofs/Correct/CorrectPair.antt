@@ -1,5 +1,5 @@
 -- A correction of a lent pair: what it writes is accepted, and it has room exactly where the last block ends early enough.
-use mathlib.Core.Path.{_≡_, sym, ap, ap₂, _∙_}
+use mathlib.Core.Path.{_≡_, sym, ap, ap₂, _∙_, subst}
 use Prim.Native.Nat.{ℕ, _+_, _-_, _≤_, _<_}
 use native.Mathlib.Omega.{arith}
 use mathlib.Core.Bool.{true}
@@ -21,9 +21,10 @@ use Rattle.format.specs.Correct.{withContent, rewrittenFrom, correctCell
 use Rattle.format.specs.Together.{Correction, replacedBy, leftPlace, corrected, correctedPair}
 use Rattle.base.proofs.Tests.{cases}
 use Rattle.format.proofs.Track.AcceptedSpans.{accepted-track}
-use Rattle.format.proofs.Written.WrittenEnds.{EndsWritten}
-use Rattle.format.proofs.Correct.Replaced.{Bytes}
+use Rattle.format.proofs.Written.WrittenEnds.{EndsWritten, GapsWritten}
+use Rattle.format.proofs.Correct.Replaced.{Bytes, named}
 use Rattle.format.proofs.Track.Pairs.{bytes-cells, marks-cells, length-bytes, length-marks, bytes-copied, marks-copied, lent-marks, accept-pair, accepted-pair, lent-length, written-pair}
+use Rattle.format.proofs.Correct.Rewritten.{beforeHit}
 use Rattle.format.proofs.Correct.Orders.{correct-accepted}
 use Rattle.format.proofs.Correct.PairOrders.{lent-corrected}
 
@@ -54,7 +55,8 @@ place-in-track c a e s y ys f =
 
 module _ (gap : ℕ → ℕ → ℕ) where
   -- The corrected pair is accepted, as long as before, with the same home and the same sectors but for the new key and data; bytes and marks before
-  -- the corrected sector are copied, and from there on blocks end as they are written.
+  -- the corrected sector are copied. From there on blocks end as they are written, the gaps behind them are the rule's and the last one runs to index; the sectors before stay, with
+  -- places and spans.
   pub correct-pair : ((k d : ℕ) → 21 ≤ gap k d) → (t m : List ℕ) → unmarked t ≡ true → (a : Accepted) → accept t m ≡ good a → (x : Correction) → Bytes x
       → (q : Pair) → correctedPair gap t m x ≡ good q
       → (b : Accepted)
@@ -66,6 +68,8 @@ module _ (gap : ℕ → ℕ → ℕ) where
       × (take (leftPlace (fromNumber (x .number) (a .sectors))) (q .track) ≡ take (leftPlace (fromNumber (x .number) (a .sectors))) t)
       × (take (leftPlace (fromNumber (x .number) (a .sectors))) (q .marks) ≡ take (leftPlace (fromNumber (x .number) (a .sectors))) m)
       × EndsWritten (fromNumber (x .number) (b .sectors))
+      × GapsWritten gap (length t) (fromNumber (x .number) (b .sectors))
+      × (beforeHit (named x) (b .sectors) ≡ beforeHit (named x) (a .sectors))
   correct-pair least t m ut a e x bx q k =
       let g = accepted-pair t m a e in
       let n = lent-length t m (g .0) in
@@ -86,6 +90,8 @@ module _ (gap : ℕ → ℕ → ℕ) where
         ap (take p) (sym track) ∙ bytes-copied p c (cells t m) (s .5) ∙ ap (take p) (bytes-cells t m marked ut),
         ap (take p) (sym marks) ∙ marks-copied p c (cells t m) (s .5) ∙ ap (take p) (marks-cells t m marked ut),
         s .6,
+        subst (λ (l : ℕ). GapsWritten gap l (fromNumber (x .number) (s .0 .sectors))) (n .0) (s .7),
+        s .8,
       )
 
   -- Where the last block ends if the sector y, with the sectors ys behind it, gets a new key and data, and the least gap behind it.

@@ -3,7 +3,8 @@ use mathlib.Core.Path.{_≡_, refl, sym, ap, ap₂, _∙_}
 use Prim.Native.Nat.{ℕ, _≤_}
 use mathlib.Core.Bool.{Bool, true}
 use mathlib.Core.List.{List, [], _∷_, _++_, map}
-use lib.ListN.{length, take}
+use native.Mathlib.Omega.{arith}
+use lib.ListN.{length, take, length-append}
 use lib.Dec.{eqb}
 use Rattle.base.proofs.Tests.{or-comm}
 use Rattle.format.specs.Answer.{roomMissing}
@@ -13,11 +14,11 @@ use Rattle.format.specs.Span.{joined}
 use Rattle.format.specs.Sector.{Sector, contentRight}
 use Rattle.format.specs.Accept.{Placed, placedFrom, Accepted, spansOf, acceptCells, fromNumber, sectorsOf}
 use Rattle.format.specs.Together.{Correction, replacedBy, fromEither, leftPlace, withBoth, corrected, fitTogether, writtenTogether, together}
-use Rattle.format.proofs.Written.WrittenEnds.{EndsWritten}
+use Rattle.format.proofs.Written.WrittenEnds.{EndsWritten, GapsWritten}
 use Rattle.format.proofs.Correct.Replaced.{Bytes, named, with-both-comm}
 use Rattle.format.proofs.Correct.Relaid.{anyHit, any-replaced, relaid, relaid-relaid, room-relaid}
 use Rattle.format.proofs.Track.AcceptedSpans.{Track, acceptedOf, track-accepted, track-sectors, accepted-track}
-use Rattle.format.proofs.Correct.Rewritten.{from-number, relaid-ends}
+use Rattle.format.proofs.Correct.Rewritten.{beforeHit, from-number, relaid-ends, relaid-gaps, relaid-before}
 use Rattle.format.proofs.Correct.Corrected.{corrected-spans, Done, corrected-done, done-length, done-copies, done-track, together-spans}
 
 from-either-comm : (a b : Correction) (xs : List Placed) → fromEither b a xs ≡ fromEither a b xs
@@ -46,12 +47,14 @@ module _ (gap : ℕ → ℕ → ℕ) where
         ∙ ap₂ (λ (x : Bool) (zs : List (List ℕ)). require x roomMissing (good (head ++ joined zs))) (room-relaid gap a b gs ss (r .enough) n) (relaid-relaid gap a b gs ss (r .enough))
         ∙ sym (together-spans gap head h gs ss t a b n)
 
-    -- A corrected track is accepted with the same home and the corrected sectors, is as long as before, copies what stood before the sector, and from there on its blocks end as they
-    -- are written.
+    -- A corrected track is accepted with the same home and the corrected sectors, is as long as before and copies what stood before the sector. From there on its blocks end as they
+    -- are written, the gaps behind them are the rule's and the last one runs to index; the sectors before stay, with places and spans.
     pub correct-accepted : (c : List ℕ) (a : Accepted) → acceptCells c ≡ good a → (x : Correction) → Bytes x → (c₁ : List ℕ) → corrected gap c x ≡ good c₁
         → (b : Accepted) × (acceptCells c₁ ≡ good b) × (b .home ≡ a .home) × (sectorsOf (b .sectors) ≡ map (replacedBy x) (sectorsOf (a .sectors)))
         × (length c₁ ≡ length c) × (take (leftPlace (fromNumber (x .number) (a .sectors))) c₁ ≡ take (leftPlace (fromNumber (x .number) (a .sectors))) c)
         × EndsWritten (fromNumber (x .number) (b .sectors))
+        × GapsWritten gap (length c) (fromNumber (x .number) (b .sectors))
+        × (beforeHit (named x) (b .sectors) ≡ beforeHit (named x) (a .sectors))
     correct-accepted c a e x y c₁ k =
         let h : Home = a .home in
         let head : List ℕ = take (firstCountPlace (h .place)) c in
@@ -72,6 +75,9 @@ module _ (gap : ℕ → ℕ → ℕ) where
               ∙ done-copies gap head h gs ss t x c₁ r
               ∙ ap₂ (λ (z : Accepted) (w : List ℕ). take (leftPlace (fromNumber (x .number) (z .sectors))) w) (v .3) (v .2),
           rw (from-number x (placedFrom (firstCountPlace (h .place)) ks new)) (relaid-ends gap (named x) (firstCountPlace (h .place)) gs new),
+          rw (from-number x (placedFrom (firstCountPlace (h .place)) ks new))
+              (relaid-gaps gap (named x) (firstCountPlace (h .place)) (length c) gs new (omega (arith, t .head-length, length-append head (joined gs), ap length (v .2))) (r .enough)),
+          relaid-before gap x (firstCountPlace (h .place)) gs ss ∙ ap (λ (z : Accepted). beforeHit (named x) (z .sectors)) (v .3),
         )
 
     module _ (c : List ℕ) (a : Accepted) (e : acceptCells c ≡ good a) (x y : Correction) (ne : x .number ≡ y .number → ⊥) (bx : Bytes x) (by : Bytes y) where

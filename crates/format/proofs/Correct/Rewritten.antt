@@ -21,14 +21,19 @@ use Rattle.format.specs.Together.{Correction, replacedBy, fromEither, le
 use Rattle.format.proofs.Base.Judged.{good-inj, require-good}
 use Rattle.base.proofs.Tests.{cases, false-true}
 use Rattle.format.proofs.Sector.ReadsAs.{sectors-placed}
-use Rattle.format.proofs.Written.WrittenEnds.{EndsWritten, spans-end-written}
-use Rattle.format.proofs.Correct.Replaced.{named, namedEither, replaced-one, replaced-other}
+use Rattle.format.proofs.Written.WrittenEnds.{EndsWritten, GapsWritten, spans-end-written, spans-gaps-written}
+use Rattle.format.proofs.Correct.Replaced.{named, namedEither, replaced-named, replaced-one, replaced-other}
 use Rattle.format.proofs.Correct.Relaid.{anyHit, relaid, room}
 
 -- The placed sectors from the first that is hit on.
 unfoldable pub fromHit : (Sector → Bool) → List Placed → List Placed
 fromHit hit [] = []
 fromHit hit (x ∷ xs) = let r = fromHit hit xs in pick (hit (x .sector)) (x ∷ xs) r
+
+-- The placed sectors before that one.
+unfoldable pub beforeHit : (Sector → Bool) → List Placed → List Placed
+beforeHit hit [] = []
+beforeHit hit (x ∷ xs) = let r = beforeHit hit xs in pick (hit (x .sector)) [] (x ∷ r)
 
 -- The sectors from a number on are those from the sector that the correction names.
 pub from-number : (a : Correction) (xs : List Placed) → fromNumber (a .number) xs ≡ fromHit (named a) xs
@@ -49,24 +54,49 @@ from-none hit [] e = refl
 from-none hit (x ∷ xs) e =
     cases (hit (x .sector)) (λ d. false-true (sym (rw d at e))) (λ d. rw d (from-none hit xs (rw d at e)))
 
--- Where spans are kept up to the first sector that is hit and written afresh from there, the blocks from that sector on end as they are written.
+-- Where spans are kept up to the first sector that is hit and written afresh from there: the sectors from it on if it is the first one, and if it comes later.
+module _ (gap : ℕ → ℕ → ℕ) (hit : Sector → Bool) (p : ℕ) (g : List ℕ) (gs : List (List ℕ)) (s : Sector) (ss : List Sector) where
+  hit-here : hit s ≡ true
+      → fromHit hit (placedFrom p (writtenSpans gap (length (joined (g ∷ gs))) (s ∷ ss)) (s ∷ ss)) ≡ placedFrom p (writtenSpans gap (length (joined (g ∷ gs))) (s ∷ ss)) (s ∷ ss)
+  unfolding fromHit placedFrom writtenSpans
+  hit-here e = rw e
+
+  hit-later : hit s ≡ false → fromHit hit (placedFrom p (g ∷ relaid gap hit gs ss) (s ∷ ss)) ≡ fromHit hit (placedFrom (p + length g) (relaid gap hit gs ss) ss)
+  unfolding fromHit placedFrom
+  hit-later e = rw e
+
+-- There the blocks from that sector on end as they are written.
 pub relaid-ends : (gap : ℕ → ℕ → ℕ) (hit : Sector → Bool) (p : ℕ) (gs : List (List ℕ)) (ss : List Sector) → EndsWritten (fromHit hit (placedFrom p (relaid gap hit gs ss) ss))
-unfolding fromHit placedFrom relaid writtenSpans
+unfolding fromHit placedFrom relaid
 relaid-ends gap hit p [] ss = tt
 relaid-ends gap hit p (g ∷ gs) [] = tt
 relaid-ends gap hit p (g ∷ gs) (s ∷ ss) =
     cases (hit s)
-    (λ e. rw (e, all-hit e) (spans-end-written gap p n (s ∷ ss)))
-    (λ e. rw (e, none-hit e) (relaid-ends gap hit (p + length g) gs ss))
-  where
-    n : ℕ
-    n = length (joined (g ∷ gs))
+    (λ e. rw (e, hit-here gap hit p g gs s ss e) (spans-end-written gap p (length (joined (g ∷ gs))) (s ∷ ss)))
+    (λ e. rw (e, hit-later gap hit p g gs s ss e) (relaid-ends gap hit (p + length g) gs ss))
 
-    all-hit : hit s ≡ true → fromHit hit (placedFrom p (writtenSpans gap n (s ∷ ss)) (s ∷ ss)) ≡ placedFrom p (writtenSpans gap n (s ∷ ss)) (s ∷ ss)
-    all-hit e = rw e
+-- Where there is room, the gaps behind them are the rule's, and the last one runs to index.
+pub relaid-gaps : (gap : ℕ → ℕ → ℕ) (hit : Sector → Bool) (p l : ℕ) (gs : List (List ℕ)) (ss : List Sector) → p + length (joined gs) ≡ l → room gap hit gs ss ≡ true
+    → GapsWritten gap l (fromHit hit (placedFrom p (relaid gap hit gs ss) ss))
+unfolding fromHit placedFrom relaid room
+relaid-gaps gap hit p l [] ss e r = false-true r
+relaid-gaps gap hit p l (g ∷ gs) [] e r = false-true r
+relaid-gaps gap hit p l (g ∷ gs) (s ∷ ss) e r =
+    let n : ℕ = length (joined (g ∷ gs)) in
+    cases (hit s)
+    (λ q. rw (q, hit-here gap hit p g gs s ss q) (spans-gaps-written gap p n l (s ∷ ss) e (omega (arith, leb-true (reach gap (s ∷ ss) + 13) n (rw q at r)))))
+    (λ q. rw (q, hit-later gap hit p g gs s ss q) (relaid-gaps gap hit (p + length g) l gs ss (omega (arith, length-append g (joined gs))) (rw q at r)))
 
-    none-hit : hit s ≡ false → fromHit hit (placedFrom p (g ∷ relaid gap hit gs ss) (s ∷ ss)) ≡ fromHit hit (placedFrom (p + length g) (relaid gap hit gs ss) ss)
-    none-hit e = rw e
+-- The sectors before it stay, with their places and spans.
+pub relaid-before : (gap : ℕ → ℕ → ℕ) (a : Correction) (p : ℕ) (gs : List (List ℕ)) (ss : List Sector)
+    → beforeHit (named a) (placedFrom p (relaid gap (named a) gs (map (replacedBy a) ss)) (map (replacedBy a) ss)) ≡ beforeHit (named a) (placedFrom p gs ss)
+unfolding beforeHit placedFrom relaid writtenSpans
+relaid-before gap a p [] ss = refl
+relaid-before gap a p (g ∷ gs) [] = refl
+relaid-before gap a p (g ∷ gs) (s ∷ ss) =
+    cases (named a s)
+    (λ e. rw (replaced-named a a s, e, replaced-named a a s, e))
+    (λ e. rw (replaced-other a s e, e, e) (ap (λ (xs : List Placed). record { place = p; span = g; sector = s } ∷ xs) (relaid-before gap a (p + length g) gs ss)))
 
 apart : (n m : ℕ) (seen : List ℕ) → among n seen ≡ true → among m seen ≡ false → eqb m n ≡ false
 apart n m seen e f =

@@ -27,7 +27,7 @@ use Rattle.format.proofs.Track.Pairs.{length-bytes, length-marks, accep
 use Rattle.format.proofs.Track.AcceptedSpans.{Track, acceptedOf, track-accepted}
 use Rattle.format.proofs.Written.WrittenHome.{range-bounds, head-length, head-unmarked, written-home}
 use Rattle.format.proofs.Sector.CountRight.{right-in-range, count-unmarked, first-flag}
-use Rattle.format.proofs.Written.WrittenEnds.{EndsWritten, end-as-written}
+use Rattle.format.proofs.Written.WrittenEnds.{EndsWritten, GapsWritten, end-as-written, last-gap-written}
 use Rattle.format.proofs.Written.OneBehind.{gapToIndex, spanToIndex, behind-one, gap-behind, length-behind}
 
 -- Home as Blank writes it.
@@ -141,7 +141,7 @@ module _ (l k : ℕ) (own : Address) (flag : ℕ) (partner : Address) (s : ℕ) 
       let c = require-good (leb (blankNeed key body) l) roomMissing _ q (sym (blank-is (a .0) (b .0)) ∙ e) in
       (a .0, b .0, leb-true (blankNeed key body) l (c .0), good-inj (pairOf cellsWritten) q (c .1))
 
-  -- What Blank writes is accepted: home at 30, the wanted sector alone at 55, the lengths asked for, and the block ends as it is written.
+  -- What Blank writes is accepted: home at 30, the wanted sector alone at 55, the lengths asked for; the block ends as it is written, and its gap runs to index.
   pub blank-accepted : unmarked key ≡ true → unmarked body ≡ true → s < 256 → (q : Pair) → blank l k own flag partner s key body ≡ good q
       → (a : Accepted)
       × (accept (q .track) (q .marks) ≡ good a)
@@ -151,6 +151,7 @@ module _ (l k : ℕ) (own : Address) (flag : ℕ) (partner : Address) (s : ℕ) 
       × (length (q .track) ≡ l)
       × (length (q .marks) ≡ l)
       × EndsWritten (a .sectors)
+      × GapsWritten gapOne l (a .sectors)
   unfolding placedFrom lentForWriting
   blank-accepted uk ub n q e =
       let g = blank-good q e in
@@ -175,4 +176,5 @@ module _ (l k : ℕ) (own : Address) (flag : ℕ) (partner : Address) (s : ℕ) 
         ap length (sym track) ∙ length-bytes c ∙ len,
         ap length (sym marks) ∙ length-marks c ∙ len,
         (end-as-written 55 new m, tt),
+        last-gap-written gapOne 55 l m new (omega (arith, head-length flag own)),
       )
