@@ -1,3 +1,4 @@
--- Laws of tests and of lists, which say nothing of tracks.
+-- Laws of tests, of lists and of slices that are written, which say nothing of tracks.
 pub mod Tests
 pub mod Lists
+pub mod Filled

@@ -3,7 +3,6 @@ pub mod Each
 pub mod FirstFault
 pub mod RoundTrip
 pub mod Exactly
-pub mod Filled
 pub mod Passed
 pub mod Lent
 pub mod Outcome

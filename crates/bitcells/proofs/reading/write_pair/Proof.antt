@@ -7,7 +7,7 @@ use lib.ListN.{length, length-set}
 use Rattle.pattern.specs.Pattern.{dataIn, markIn}
 use Rattle.bitcells.specs.Each.{eachPattern}
 use Rattle.bitcells.proofs.Each.{length-pattern, getD-pattern}
-use Rattle.bitcells.proofs.Filled.{filled, filled-more, filled-all}
+use Rattle.base.proofs.Filled.{filled, filled-more, filled-all}
 use Rattle.bitcells.proofs.reading.write_pair.Statement.{statement}
 use Rattle.bitcells.proofs.reading.write_pair.Tie as tie
 
@@ -64,9 +64,9 @@ loop-again c =
       omega arith,
       simp length-set (l .inv .1),
       simp length-set (l .inv .2),
-      filled-more (eachPattern dataIn x) (a .track .now) (l .track) (l .i) (c .before .data-in .result)
+      filled-more (eachPattern dataIn x) (a .track .now) (l .track) (l .i) (c .before .data-in .result) 0
           (omega (arith, length-pattern dataIn x)) (omega arith) (l .inv .3) (c .before .data-in .ensures ∙ sym (getD-pattern dataIn x (l .i) 0 h)),
-      filled-more (eachPattern markIn x) (a .marks .now) (l .marks) (l .i) (c .mark-in .result)
+      filled-more (eachPattern markIn x) (a .marks .now) (l .marks) (l .i) (c .mark-in .result) 0
           (omega (arith, length-pattern markIn x)) (omega arith) (l .inv .4) (c .mark-in .ensures ∙ sym (getD-pattern markIn x (l .i) 0 h)),
     )
 

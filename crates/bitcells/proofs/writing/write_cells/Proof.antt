@@ -6,7 +6,7 @@ use borrow.Author.Needs.{needs}
 use lib.ListN.{length, set, length-set}
 use Rattle.bitcells.specs.ToCells.{writtenCells}
 use Rattle.bitcells.proofs.Each.{length-written, getD-first, getD-second}
-use Rattle.bitcells.proofs.Filled.{filled, filled-more, filled-all}
+use Rattle.base.proofs.Filled.{filled, filled-more, filled-all}
 use Rattle.bitcells.proofs.writing.write_cells.Statement.{statement}
 use Rattle.bitcells.proofs.writing.write_cells.Tie as tie
 
@@ -66,8 +66,8 @@ loop-again c =
     let u = c .before .first-cells in
     let w = c .second-cells in
     let one : set (l .bit-cells) (2 * l .i) (u .result) ≡ filled all (2 * l .i + 1) old =
-    filled-more all old (l .bit-cells) (2 * l .i) (u .result) (omega arith) (omega arith) (l .inv .2) (u .ensures ∙ sym (getD-first t m (l .i) (omega arith) (omega arith))) in
-    let two = filled-more all old (set (l .bit-cells) (2 * l .i) (u .result)) (2 * l .i + 1) (w .result) (omega arith) (omega arith) one (w .ensures ∙ sym (getD-second t m (l .i) (omega arith) (omega arith))) in
+    filled-more all old (l .bit-cells) (2 * l .i) (u .result) 0 (omega arith) (omega arith) (l .inv .2) (u .ensures ∙ sym (getD-first t m (l .i) (omega arith) (omega arith))) in
+    let two = filled-more all old (set (l .bit-cells) (2 * l .i) (u .result)) (2 * l .i + 1) (w .result) 0 (omega arith) (omega arith) one (w .ensures ∙ sym (getD-second t m (l .i) (omega arith) (omega arith))) in
     let k : 2 * l .i + 1 + 1 ≡ 2 * (l .i + 1) = omega arith in
     (omega arith, simp length-set (l .inv .1), two ∙ ap (λ (z : ℕ). filled all z old) k)
 
