@@ -24,10 +24,10 @@ use Rattle.format.proofs.Spans.SpanAgrees.{span-agrees}
 use Rattle.format.proofs.Sector.ReadSector.{restOf, read-inv, span-least}
 use Rattle.format.proofs.Sector.Valid.{FitsCount, info-fits}
 use Rattle.format.proofs.Sector.ReadBack.{read-valid}
-use Rattle.format.proofs.Sector.ReadsAs.{Reads, accepted-by}
+use Rattle.format.proofs.Sector.ReadsAs.{Reads, none-placed, accepted-by}
 use Rattle.format.proofs.Track.AcceptedSpans.{accepted-track}
 use Rattle.format.proofs.Track.Pairs.{length-cells, accepted-pair, lent-marks, lent-length}
-use Rattle.format.proofs.Find.SpanCandidates.{shape-rest, none-placed}
+use Rattle.format.proofs.Find.SpanCandidates.{shape-rest}
 use Rattle.sector.specs.As.{asAddress}
 use Rattle.sectors.specs.declared.SectorAt.{SectorAt as SectorCode}
 use Rattle.sectors.specs.SectorAt.{SectorAt, lastFirstCount, opensFirst, sectorAt, asSectorAt}

@@ -21,7 +21,7 @@ use Rattle.format.proofs.Cells.Opening.{starts-with-append, opens-seam}
 use Rattle.format.proofs.Spans.Cutting.{opens-joined}
 use Rattle.format.proofs.Spans.SpanAgrees.{span-agrees}
 use Rattle.format.proofs.Sector.ReadSector.{ReadAs, read-inv, span-least}
-use Rattle.format.proofs.Sector.ReadsAs.{Reads}
+use Rattle.format.proofs.Sector.ReadsAs.{Reads, none-placed}
 
 -- The candidates that placed sectors are to be found as.
 unfoldable pub candidatesOf : List Placed → List Candidate
@@ -126,14 +126,6 @@ read-long m i x false g s v = omega (arith, span-least m i x false g s v)
 pub read-first : (m : Home) (i : ℕ) (x : Settled) (last : Bool) (g : List ℕ) (s : Sector) → ReadAs m i x last g s → s .first ≡ isFirst i
 unfolding sectorIn
 read-first m i x last g s v = ap (λ (k : Sector). k .first) (v .sector-is)
-
--- There is no sector exactly where there is no span.
-pub none-placed : (m : Home) (i : ℕ) (x : Settled) (p : ℕ) (gs : List (List ℕ)) (ss : List Sector) → Reads m i x p gs ss → none (placedFrom p gs ss) ≡ none gs
-unfolding placedFrom
-none-placed m i x p [] [] e = refl
-none-placed m i x p [] (s ∷ ss) e = absurd e
-none-placed m i x p (g ∷ gs) [] e = absurd e
-none-placed m i x p (g ∷ gs) (s ∷ ss) e = refl
 
 -- At the front of a span stands its candidate, and the next one not before the next span.
 candidates-span : (m : Home) (i : ℕ) (x : Settled) (h p z : ℕ) (zs : List ℕ) (gs : List (List ℕ)) (s : Sector) → ReadAs m i x (none gs) (z ∷ zs) s

@@ -19,7 +19,7 @@ use Rattle.format.proofs.Cells.Local.{starts-local}
 use Rattle.format.proofs.Sector.Sizes.{key-size-least, key-size-most}
 
 -- A data block where DL = 0 takes at least seven bytes,
-empty-least : (c : List ℕ) → 7 ≤ emptySize c
+pub empty-least : (c : List ℕ) → 7 ≤ emptySize c
 unfolding emptySize
 empty-least c = cases (startsWith emptyClosing (drop 7 c)) (λ e. rw e (omega arith)) (λ e. rw e (omega arith))
 

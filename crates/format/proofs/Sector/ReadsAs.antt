@@ -45,6 +45,14 @@ length-reads h i x p [] (s ∷ ss) e = absurd e
 length-reads h i x p (g ∷ gs) [] e = absurd e
 length-reads h i x p (g ∷ gs) (s ∷ ss) e = ap suc (length-reads h (suc i) (settle x s) (p + length g) gs ss (e .1))
 
+-- There is no sector exactly where there is no span.
+pub none-placed : (h : Home) (i : ℕ) (x : Settled) (p : ℕ) (gs : List (List ℕ)) (ss : List Sector) → Reads h i x p gs ss → none (placedFrom p gs ss) ≡ none gs
+unfolding placedFrom
+none-placed h i x p [] [] e = refl
+none-placed h i x p [] (s ∷ ss) e = absurd e
+none-placed h i x p (g ∷ gs) [] e = absurd e
+none-placed h i x p (g ∷ gs) (s ∷ ss) e = refl
+
 -- Sectors that clean spans read as are valid.
 pub reads-valid : (h : Home) (i : ℕ) (x : Settled) (p : ℕ) (gs : List (List ℕ)) (ss : List Sector) → cleanSpans i gs ≡ true → Reads h i x p gs ss → AllValid h i x ss
 unfolding cleanSpans

@@ -7,11 +7,11 @@ use mathlib.Core.List.{List, [], _∷_, _++_, map, append-assoc}
 use lib.ListN.{length, take, drop, length-append, length-drop}
 use lib.Seq.{drop-at, take-at, drop-drop, drop-append-le}
 use lib.Dec.{leb, eqb}
-use borrow.Author.Tests.{leb-true}
+use borrow.Author.Tests.{leb-true, eqb-true}
 use Rattle.base.specs.Pick.{pick}
 use Rattle.format.specs.Answer.{lentWrong}
 use Rattle.format.specs.Judged.{good}
-use Rattle.format.specs.Lent.{cells}
+use Rattle.format.specs.Lent.{lengthRight, cells}
 use Rattle.format.specs.Opening.{startsWith, opens}
 use Rattle.format.specs.Home.{Home, firstCountPlace}
 use Rattle.format.specs.Count.{Settled, unsettled, keyLength, dataLength}
@@ -23,14 +23,15 @@ use Rattle.format.specs.Accept.{Placed, placedFrom, endOf, Accepted, spa
 use Rattle.format.specs.Listing.{Listed, listed, mostSectors, list}
 use Rattle.format.specs.Pieces.{countLength, keyPieces, blockOpening, blockCells, blockLength, sectorPieces, recordPieces, trackPieces, total, RecordAt, Following}
 use Rattle.format.specs.Written.{countOpening}
-use Rattle.base.proofs.Tests.{cases}
-use Rattle.format.proofs.Base.Judged.{good-inj, require-good}
+use Rattle.base.proofs.Tests.{cases, and-both}
+use Rattle.format.proofs.Base.Judged.{good-inj, then-good, require-good}
 use Rattle.format.proofs.Cells.Opening.{starts-length, starts-with-append}
 use Rattle.format.proofs.Spans.Shape.{Shape}
 use Rattle.format.proofs.Spans.Cutting.{shape-tail}
-use Rattle.format.proofs.Sector.BlockEnd.{offset-is, data-in-end}
+use Rattle.format.proofs.Sector.Sizes.{key-size-least}
+use Rattle.format.proofs.Sector.BlockEnd.{empty-least, offset-is, data-in-end}
 use Rattle.format.proofs.Sector.ReadSector.{ReadAs, restOf, read-inv, read-length, Lengths}
-use Rattle.format.proofs.Sector.ReadsAs.{Reads, length-reads}
+use Rattle.format.proofs.Sector.ReadsAs.{Reads, none-placed}
 use Rattle.format.proofs.Sector.Regapped.{blockPlace, read-first, end-placed}
 use Rattle.format.proofs.Track.AcceptedSpans.{accepted-track}
 use Rattle.format.proofs.Track.Pairs.{accepted-pair, lent-length}
@@ -126,11 +127,9 @@ module _ (head g rest : List ℕ) (h : Home) (i : ℕ) (x : Settled) (last : Boo
         gap-least = omega (arith, end-here, lengths .reaches);
       }
 
-none-listed : (p : ℕ) (gs : List (List ℕ)) (ss : List Sector) → length gs ≡ length ss → none (map listed (placedFrom p gs ss)) ≡ none gs
-unfolding placedFrom
-none-listed p [] ss e = refl
-none-listed p (g ∷ gs) [] e = absurd (omega arith)
-none-listed p (g ∷ gs) (s ∷ ss) e = refl
+none-listed : (xs : List Placed) → none (map listed xs) ≡ none xs
+none-listed [] = refl
+none-listed (x ∷ xs) = refl
 
 -- The records of spans that are read follow each other.
 reads-follow : (head : List ℕ) (h : Home) (i : ℕ) (x : Settled) (gs : List (List ℕ)) (ss : List Sector) → Shape i gs → Reads h i x (length head) gs ss
@@ -148,7 +147,7 @@ reads-follow head h i x (g ∷ gs) (s ∷ ss) v e =
     let later : Following ((head ++ g) ++ rest) false (length (head ++ g)) (map listed (placedFrom (length (head ++ g)) gs ss)) =
     reads-follow (head ++ g) h (suc i) (settle x s) gs ss (shape-tail i g gs v) (subst (λ (q : ℕ). Reads h (suc i) (settle x s) q gs ss) (sym n) (e .1)) in (
       subst (λ (b : Bool). RecordAt (head ++ (g ++ rest)) (isFirst i) b p (listed (record { place = p; span = g; sector = s })))
-          (sym (none-listed (p + length g) gs ss (length-reads h (suc i) (settle x s) (p + length g) gs ss (e .1))))
+          (sym (none-listed (placedFrom (p + length g) gs ss) ∙ none-placed h (suc i) (settle x s) (p + length g) gs ss (e .1)))
           (record-here head g rest h i x (none gs) s a f (opening-there i g gs v (a .opened))),
       rw (leads head g rest h i x (none gs) s a f) (rw (n, append-assoc head g rest) at later),
     )
@@ -190,3 +189,55 @@ list-layout n t m a rs e f =
     let same : map listed (a .sectors) ≡ rs = good-inj (map listed (a .sectors)) rs (sym (list-records n t m a l e) ∙ f) in
     let k : Following (cells t m) true (firstCountPlace (a .home .place)) rs = subst (Following (cells t m) true (firstCountPlace (a .home .place))) same (records-follow (cells t m) a (g .1)) in
     (omega (arith, follow-fill (cells t m) true (firstCountPlace (a .home .place)) rs k, lent-length t m (g .0) .0), k)
+
+-- The numbers of a record of a track of l bytes are no greater than l.
+pub record Within (l : ℕ) (r : Listed) : Type 0 where
+  pub key-length-most : r .keyLength ≤ l
+  pub data-length-most : r .dataLength ≤ l
+  pub key-place-most : r .keyPlace ≤ l
+  pub data-place-most : r .dataPlace ≤ l
+  pub end-most : r .end ≤ l
+  pub gap-most : r .gap ≤ l
+
+-- Those of all of these records.
+abbrev pub AllWithin : ℕ → List Listed → Type 0
+AllWithin l [] = Unit {0}
+AllWithin l (r ∷ rs) = Within l r × AllWithin l rs
+
+block-least : (c : List ℕ) (r : Listed) → r .dataLength + 7 ≤ blockLength c r
+unfolding blockLength
+block-least c r =
+    cases (eqb (r .dataLength) 0)
+    (λ e. rw e (omega (arith, eqb-true (r .dataLength) 0 e, empty-least (blockCells c r))))
+    (λ e. rw e (omega arith))
+
+key-first : (n a b : ℕ) → a ≤ b → pick (eqb n 0) 0 a ≤ b
+key-first n a b l = cases (eqb n 0) (λ e. rw e (omega arith)) (λ e. rw e l)
+
+record-within : (c : List ℕ) (first last : Bool) (p : ℕ) (r : Listed) → RecordAt c first last p r → r .end + r .gap ≤ length c → Within (length c) r
+record-within c first last p r v l =
+    let k : r .keyLength ≤ total (keyPieces (r .keyLength)) = omega (arith, key-total (r .keyLength), key-size-least (r .keyLength)) in
+    let b = block-least c r in
+    record {
+      key-length-most = omega (arith, v .end-place);
+      data-length-most = omega (arith, v .end-place);
+      key-place-most = rw (v .key-place) (key-first (r .keyLength) (p + countLength first + 11 + 6) (length c) (omega (arith, v .end-place)));
+      data-place-most = omega (arith, v .data-place, v .end-place);
+      end-most = omega arith;
+      gap-most = omega arith;
+    }
+
+follow-within : (c : List ℕ) (first : Bool) (p : ℕ) (rs : List Listed) → Following c first p rs → AllWithin (length c) rs
+follow-within c first p [] e = tt
+follow-within c first p (r ∷ rs) (v, e) =
+    (record-within c first (none rs) p r v (omega (arith, follow-fill c false (r .end + r .gap) rs e)), follow-within c false (r .end + r .gap) rs e)
+
+-- List's records are such.
+pub list-within : (n : ℕ) (t m : List ℕ) (rs : List Listed) → list n t m ≡ good rs → (length t ≤ 4002) × AllWithin (length t) rs
+unfolding list lengthRight
+list-within n t m rs e =
+    let f = then-good (accept t m) _ rs (require-good (leb mostSectors n) lentWrong _ rs e .1) in
+    let a : Accepted = f .0 in
+    let l = lent-length t m (accepted-pair t m a (f .1) .0) in
+    let w = follow-within (cells t m) true (firstCountPlace (a .home .place)) rs (list-layout n t m a rs (f .1) e .1) in
+    (leb-true (length t) 4002 (and-both (leb 3815 (length t)) (leb (length t) 4002) (l .1) .1), subst (λ (k : ℕ). AllWithin k rs) (l .0) w)
