@@ -12,7 +12,7 @@ use Rattle.format.specs.Home.{Home, firstCountPlace}
 use Rattle.format.specs.Accept.{Placed, Accepted, accept}
 use Rattle.format.specs.Listing.{Listed, mostSectors, list}
 use Rattle.format.proofs.Base.Judged.{good-inj}
-use Rattle.format.proofs.Track.ListAccepted.{list-records, list-number, list-refuses, list-short}
+use Rattle.format.proofs.Track.ListAccepted.{list-records, list-number, list-refuses, list-short, list-long}
 use Rattle.sectors.specs.From.{SectorsFrom}
 use Rattle.sectors.proofs.From.{accepted-steps}
 use Rattle.listing.specs.declared.Begun.{Begun}
@@ -70,11 +70,6 @@ unfolding firstFor firstCount
 begun-refused n t m x l e =
     refused-so n t m x (asAnswer x) refl (list-refuses n t m (asAnswer x) l e) (rw (le-leb mostSectors n l, e))
 
--- The length of a list of 67 or more makes no difference.
-same-list : (n : ℕ) (t m : List ℕ) → mostSectors ≤ n → list mostSectors t m ≡ list n t m
-unfolding list
-same-list n t m l = rw (le-leb mostSectors n l)
-
 -- An accepted track is listed.
 answer-good : (n : ℕ) (t m : List ℕ) (p : ℕ) → mostSectors ≤ n → firstCount t m ≡ good p → done ≡ answerOf (list n t m)
 unfolding firstCount
@@ -89,6 +84,6 @@ pub begun-good : (n : ℕ) (t m : List ℕ) (p k : ℕ) (x : AnswerCode) → asA
 unfolding firstFor
 begun-good n t m p k x e l f c =
     let q : asAnswer x ≡ answerOf (list n t m) = e ∙ answer-good n t m p l f in
-    let j : k ≡ length (recordsOf (list n t m)) = c ∙ ap (λ (o : Judged (List Listed)). length (recordsOf o)) (same-list n t m l) in
+    let j : k ≡ length (recordsOf (list n t m)) = c ∙ ap (λ (o : Judged (List Listed)). length (recordsOf o)) (list-long n t m l) in
     let h : firstFor n t m ≡ p = rw (le-leb mostSectors n l, f) in
     λ i. record { listing = record { answer = coded (q i); count = j i }; first = sym h i }

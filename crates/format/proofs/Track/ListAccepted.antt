@@ -27,3 +27,8 @@ list-refuses n t m b l e = rw (le-leb mostSectors n l, e)
 pub list-short : (n : ℕ) (t m : List ℕ) → n < mostSectors → list n t m ≡ refused lentWrong
 unfolding list
 list-short n t m l = rw (lt-leb mostSectors n l)
+
+-- The length of a list of 67 or more makes no difference.
+pub list-long : (n : ℕ) (t m : List ℕ) → mostSectors ≤ n → list mostSectors t m ≡ list n t m
+unfolding list
+list-long n t m l = rw (le-leb mostSectors n l)

@@ -1,0 +1,2 @@
+-- The laws of rows of numbers.
+pub mod Rows

@@ -1,0 +1,2 @@
+-- List as rows of numbers.
+pub mod Rows
