@@ -10,7 +10,7 @@ use Rattle.format.specs.Answer.{lentWrong}
 use Rattle.format.specs.Judged.{Judged, good, refused, answerOf}
 use Rattle.format.specs.Listing.{Listed, mostSectors, list}
 use Rattle.format.proofs.Track.ListAccepted.{list-short, list-long}
-use Rattle.format.proofs.Track.Pieces.{Within, AllWithin, list-within}
+use Rattle.format.proofs.Track.Pieces.{Within, AllWithin, records-within}
 use Rattle.listing.specs.declared.Sector.{Sector}
 use Rattle.listing.specs.Filling.{asListed, asRecords, recordsOf, filled}
 use Rattle.listing.proofs.Listed.{listing}
@@ -45,7 +45,7 @@ row-at t m xs old z i e h = go (list mostSectors t m) refl e h
         → lowBits (getD xs i z) ≡ getD (rowsOf j) i (rowOf (asListed z))
     go (refused b) f q l = absurd (omega arith)
     go (good rs) f q l =
-        let w = list-within mostSectors t m rs f in
+        let w = records-within mostSectors t m rs f in
         let same : getD rs i (asListed z) ≡ asListed (getD xs i z) =
         sym (List·getD-append rs (drop (length rs) old) (asListed z) i l) ∙ ap (λ (ys : List Listed). getD ys i (asListed z)) (sym q) ∙ List·getD-map asListed xs i z in
         low-row (getD xs i z) (length t) (w .0) (subst (Within (length t)) same (within-at (length t) rs i (asListed z) (w .1) l))

@@ -1,4 +1,4 @@
--- Accept, Blank, Add and Correct give rows of the table, and no place beyond 4,002, the greatest L.
+-- Accept, List, Blank, Add and Correct give rows of the table, and no place beyond 4,002, the greatest L.
 use mathlib.Core.Path.{_≡_, refl, ap}
 use Prim.Native.Nat.{ℕ, zero, suc, _+_, _≤_}
 use native.Mathlib.Omega.{arith}
@@ -19,6 +19,7 @@ use Rattle.format.specs.Block.{blocksFit}
 use Rattle.format.specs.Span.{joined, none, spans}
 use Rattle.format.specs.Sector.{Sector, openingLength, settle, judgeCount, readBlocks, judgeSector, readSpan}
 use Rattle.format.specs.Accept.{Placed, Accepted, judgeMarks, readSpans, placedFrom, fromNumber, among, judgeNumbers, spansOf, firstCountEnd, judgeBehind, acceptCells, accept}
+use Rattle.format.specs.Listing.{mostSectors, list}
 use Rattle.format.specs.Blocks.{theKey, theData, Wanted, blocksAt, wantedPart, judgeFit, partIn}
 use Rattle.format.specs.Written.{writtenBehind, asPair}
 use Rattle.format.specs.Blank.{blank}
@@ -172,6 +173,13 @@ pub accept-within : (t m : List ℕ) → Within (accept t m)
 unfolding accept
 accept-within t m =
     within-require (lentForReading t m) lentWrong _ (omega arith, omega arith) (λ e. cells-within (cells t m) (cells-few t m e))
+
+-- List gives a row of the table, and no place beyond 4,002.
+pub list-within : (n : ℕ) (t m : List ℕ) → Within (list n t m)
+unfolding list
+list-within n t m =
+    within-require (leb mostSectors n) lentWrong _ (omega arith, omega arith) (λ _.
+    within-then (accept t m) _ (accept-within t m) (λ _ _. (omega arith, omega arith)))
 
 -- Blank gives a row of the table, and no place beyond 4,002.
 pub blank-within : (l k : ℕ) (own : Address) (flag : ℕ) (partner : Address) (s : ℕ) (key body : List ℕ) → Within (blank l k own flag partner s key body)

@@ -1,14 +1,17 @@
 -- The results of the calls from C: fields packed into one number of 64 bits.
 use Prim.Native.Nat.{ℕ, _+_, _*_, _%_}
 use mathlib.Core.List.{List}
+use lib.ListN.{length}
 use lib.Dec.{eqb}
 use Rattle.base.specs.Pick.{pick}
 use Rattle.format.specs.Answer.{Answer, wantedWrong}
-use Rattle.format.specs.Judged.{Judged, good, refused}
+use Rattle.format.specs.Judged.{Judged, good, refused, answerOf}
 use Rattle.format.specs.Blocks.{Wanted, theKey, theData, Part}
+use Rattle.format.specs.Listing.{Listed}
 use Rattle.format.specs.Walk.{Visited}
 use Rattle.format.specs.Written.{After}
 use Rattle.format.specs.PairFind.{Paired, ofFirst, pairFind}
+use Rattle.listing.specs.Filling.{recordsOf}
 
 -- An answer: bits 0 to 7 number, 8 and 9 second number, 16 to 31 place.
 unfoldable pub packedAnswer : Answer → ℕ
@@ -27,6 +30,14 @@ packedAfter r t m = record { result = r; track = t; marks = m }
 -- The same with the answer packed.
 abbrev pub packed : After → PackedAfter
 packed x = packedAfter (packedAnswer (x .answer)) (x .track) (x .marks)
+
+-- An answer with a number of sectors in bits 32 to 47.
+unfoldable pub packedCount : Answer → ℕ → ℕ
+packedCount a n = packedAnswer a + n % 65536 * 0x100000000
+
+-- List: its answer and the number of sectors, 0 where it refuses.
+abbrev pub packedListing : Judged (List Listed) → ℕ
+packedListing j = packedCount (answerOf j) (length (recordsOf j))
 
 -- The start of a part in bits 32 to 47 and its size in bits 48 to 63.
 unfoldable pub packedBounds : Part → ℕ

@@ -4,7 +4,7 @@ ghost use Rattle.format.specs.Answer.{asAnswer};
 ghost use Prim.Native.Nat.{_≤_};
 ghost use Rattle.reader.specs.Finding.{asVisited, asPart, judgedPart, judgedVisit};
 ghost use Rattle.reader.specs.Pairing.{asPaired};
-ghost use Rattle.station.specs.Packed.{packedAnswer, packedBounds, packedPart, packedPaired, packedVisited, packedVisit};
+ghost use Rattle.station.specs.Packed.{packedAnswer, packedCount, packedBounds, packedPart, packedPaired, packedVisited, packedVisit};
 
 pub mod bit_cells;
 pub mod reading;
@@ -18,6 +18,15 @@ fn packed_answer(a: format::Answer) -> u64
     let fault = (a.fault % 4) as u64;
     let place = (a.place % 65536) as u64;
     a.number as u64 + fault * 256 + place * 65536
+}
+
+// An answer, and the number of sectors in bits 32 to 47.
+fn packed_listing(x: listing::Listing) -> u64
+    ensures { λ r. ⌜ r ≡ packedCount (asAnswer (x .answer)) (x .count) ⌝ }
+{
+    let answer = packed_answer(x.answer);
+    let count = (x.count % 65536) as u64;
+    answer + count * 0x100000000
 }
 
 // The start of a part in bits 32 to 47 and its size in bits 48 to 63.

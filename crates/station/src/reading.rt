@@ -1,11 +1,15 @@
-// The calls that read a track: Accept, Find, Pair find and Walk.
+// The calls that read a track: Accept, List, Find, Pair find and Walk.
 ghost use mathlib.Core.Path.{_≡_};
+ghost use lib.ListN.{length};
 ghost use Rattle.format.specs.Judged.{answerOf, then};
 ghost use Rattle.format.specs.Accept.{accept};
+ghost use Rattle.format.specs.Listing.{list};
 ghost use Rattle.format.specs.Find.{find};
 ghost use Rattle.format.specs.Walk.{step};
-ghost use Rattle.station.specs.Packed.{packedAnswer, packedPart, packedPaired, packedVisit, wantedBy, pairFindBy};
+ghost use Rattle.rows.specs.Rows.{filledRows};
+ghost use Rattle.station.specs.Packed.{packedAnswer, packedListing, packedPart, packedPaired, packedVisit, wantedBy, pairFindBy};
 use crate::packed_answer;
+use crate::packed_listing;
 use crate::packed_paired;
 use crate::packed_part;
 use crate::packed_visit;
@@ -16,6 +20,15 @@ pub extern "C" fn iso3561_accept(track: &[u8], marks: &[u8]) -> u64
     ensures { λ r. ⌜ r ≡ packedAnswer (answerOf (accept (now (track .entry)) (now (marks .entry)))) ⌝ }
 {
     packed_answer(accepting::accept(track, marks))
+}
+
+// List: fills the first rows with the sectors of an accepted track, and gives their number; every other row stays, and a refusal writes nothing.
+#[no_mangle]
+pub extern "C" fn iso3561_list(track: &[u8], marks: &[u8], rows: &mut [[u16; 8]]) -> u64
+    ensures result { λ r. ⌜ r ≡ packedListing (list (length (now (rows .entry))) (now (track .entry)) (now (marks .entry))) ⌝ }
+    ensures rows { λ _. ⌜ now (rows .exit) ≡ filledRows (list (length (now (rows .entry))) (now (track .entry)) (now (marks .entry))) (now (rows .entry)) ⌝ }
+{
+    packed_listing(rows::list_rows(track, marks, rows))
 }
 
 // Find: where the part of sector S lies, 0 the key and 1 the data; 14 for any other part, before all else.

@@ -233,9 +233,9 @@ follow-within c first p (r ∷ rs) (v, e) =
     (record-within c first (none rs) p r v (omega (arith, follow-fill c false (r .end + r .gap) rs e)), follow-within c false (r .end + r .gap) rs e)
 
 -- List's records are such.
-pub list-within : (n : ℕ) (t m : List ℕ) (rs : List Listed) → list n t m ≡ good rs → (length t ≤ 4002) × AllWithin (length t) rs
+pub records-within : (n : ℕ) (t m : List ℕ) (rs : List Listed) → list n t m ≡ good rs → (length t ≤ 4002) × AllWithin (length t) rs
 unfolding list lengthRight
-list-within n t m rs e =
+records-within n t m rs e =
     let f = then-good (accept t m) _ rs (require-good (leb mostSectors n) lentWrong _ rs e .1) in
     let a : Accepted = f .0 in
     let l = lent-length t m (accepted-pair t m a (f .1) .0) in
