@@ -49,7 +49,8 @@ target/examples/%: examples/%.c include/iso3561.h $(LIB)
 	mkdir -p $(@D)
 	$(CC) -std=c99 -Wall -Wextra -pedantic $(CFLAGS) -Iinclude $< $(LIB) -o $@
 
-# The C station makes the sample's very bytes, tracklist lists them, and the C reader reads them, and a defective track with its alternative.
+# The C station makes the sample's very bytes, tracklist lists them, and the C reader reads them and prints their layout,
+# and of a defective track with its alternative.
 # The third program sends a track to bit cells and reads it back.
 try: examples
 	@mkdir -p build

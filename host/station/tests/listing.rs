@@ -233,6 +233,7 @@ impl Kinds {
     }
 }
 
+/// On tracks of all kinds, into row lists of many lengths; where 67 rows are lent, the pieces of each accepted track add up.
 #[test]
 fn list_as_the_reference() {
     let mut tally = Tally::new("list", 30_000);

@@ -36,6 +36,7 @@ fn last_gap_of(mut plan: Plan, gap: usize) -> Plan {
     plan
 }
 
+/// The worked case of two sectors, and a third one behind them.
 #[test]
 fn number_5() {
     let (mut track, mut marks) = (vec![0; L], vec![0; L]);
