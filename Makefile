@@ -49,7 +49,8 @@ target/examples/%: examples/%.c include/iso3561.h $(LIB)
 	mkdir -p $(@D)
 	$(CC) -std=c99 -Wall -Wextra -pedantic $(CFLAGS) -Iinclude $< $(LIB) -o $@
 
-# The C station makes the sample's very bytes, tracklist lists them, and the C reader reads them, and a defective track with its alternative.
+# The C station makes the sample's very bytes, tracklist lists them, and the C reader reads them and prints their layout,
+# and of a defective track with its alternative.
 # The third program sends a track to bit cells and reads it back.
 try: examples
 	@mkdir -p build
@@ -63,7 +64,7 @@ try: examples
 
 # As many seeds as one likes: make soak SOAK=1000000 SEED=5000000
 soak: lib
-	cd host && ISO3561_SOAK=$(SOAK) ISO3561_SEED=$(SEED) $(CARGO) test -p station --test reading --test writing --test bit_cells
+	cd host && ISO3561_SOAK=$(SOAK) ISO3561_SEED=$(SEED) $(CARGO) test -p station --test reading --test listing --test writing --test bit_cells
 
 # Times beside the reference.
 bench: lib

@@ -23,10 +23,13 @@ extern "C" {
 #define ISO3561_SHORTEST 3815
 #define ISO3561_LONGEST 4002
 
+/* No track holds more sectors; List asks for so many rows. */
+#define ISO3561_MOST_SECTORS 67
+
 /* The number of an answer. */
 enum iso3561_number {
     ISO3561_DONE = 0,                /* done */
-    ISO3561_LENT_WRONG = 1,          /* a lent length or a mark is out of rule */
+    ISO3561_LENT_WRONG = 1,          /* a lent length or a mark is out of rule, or List's rows are too few */
     ISO3561_HOME_MISSING = 2,        /* home opens nowhere in its window */
     ISO3561_HOME_CHECK_WRONG = 3,    /* home's check or closing byte is wrong */
     ISO3561_HOME_FIELDS_WRONG = 4,   /* home's flag, cylinder or head is out of rule */
@@ -63,6 +66,19 @@ enum iso3561_wanted {
     ISO3561_DATA = 1 /* the data's information */
 };
 
+/* The columns of a row that List fills. Places are in bytes after index; those of key and data are the first byte
+ * after the block's opening of six bytes. */
+enum iso3561_row {
+    ISO3561_ROW_FLAG = 0,       /* the count's flag */
+    ISO3561_ROW_SECTOR = 1,     /* the sector's number S */
+    ISO3561_ROW_KL = 2,         /* the key's length */
+    ISO3561_ROW_DL = 3,         /* the data's length */
+    ISO3561_ROW_KEY_PLACE = 4,  /* the key's place, 0 if KL = 0 */
+    ISO3561_ROW_DATA_PLACE = 5, /* the data's place, also if DL = 0 */
+    ISO3561_ROW_END = 6,        /* the place after the data block's last byte */
+    ISO3561_ROW_GAP = 7         /* how many bytes follow, up to the next count's opening, or up to index */
+};
+
 /* ---- The result of every call but iso3561_walk ---- */
 
 /* The answer's number. */
@@ -93,6 +109,11 @@ static inline size_t iso3561_part_start(uint64_t result) {
 /* Find and Pair find: how many bytes the part has. */
 static inline size_t iso3561_part_length(uint64_t result) {
     return (size_t)(result >> 48 & 0xFFFF);
+}
+
+/* List: how many sectors the track has, which is how many rows were filled; 0 where it refuses. */
+static inline size_t iso3561_sector_count(uint64_t result) {
+    return (size_t)(result >> 32 & 0xFFFF);
 }
 
 /* ---- The result of iso3561_walk ---- */
@@ -154,6 +175,20 @@ uint64_t iso3561_pair_find(const uint8_t *track, size_t track_length,
 uint64_t iso3561_walk(const uint8_t *track, size_t track_length,
                       const uint8_t *marks, size_t marks_length,
                       uint64_t from);
+
+/* ==== List: track and marks are read, rows are written; a refusal writes nothing ==== */
+
+/* List: the sectors of an accepted track, one row of eight numbers each, from left to right; see enum iso3561_row.
+ * Answer 0 fills the first rows, as many as iso3561_sector_count tells; rows past the last sector stay as they are.
+ * Answers: 1, where the rows are fewer than ISO3561_MOST_SECTORS, before anything else is looked at. Then those of
+ * iso3561_accept, with the same number, fault and place.
+ * A row's end is the one that ISO3561_SPAN_TOO_SHORT counts from: DL + 9 bytes after the block's opening, and for
+ * DL = 0 seven or ten. A row's end and gap together are the place of the next row's count, and L in the last row.
+ * So the pieces of the track add up to L: home's start, 14 bytes of home, 11; and for each sector 18 bytes of count
+ * (20 after the first), 11, for KL > 0 the key's KL + 9 bytes and 11, the data block's bytes, and the gap. */
+uint64_t iso3561_list(const uint8_t *track, size_t track_length,
+                      const uint8_t *marks, size_t marks_length,
+                      uint16_t (*rows)[8], size_t rows_count);
 
 /* ==== Writing calls: a refusal writes nothing, answer 0 writes all L bytes and marks ==== */
 

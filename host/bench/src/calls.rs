@@ -1,10 +1,10 @@
 //! Each call by the proved library and by the reference.
 
 use crate::jobs::Job;
-use reference::Part;
-use station::{Fault, NewBody, Wanted};
+use reference::{Part, Sector};
+use station::{Fault, NewBody, Wanted, MOST_SECTORS};
 
-/// What one call gave: number, second number, place, and a part's start and length.
+/// What one call gave: number, second number, place, and a part's start and length, or 0 and how many rows were filled.
 pub type Outcome = (u8, u8, usize, usize, usize);
 
 /// One call on one track of a pack.
@@ -29,6 +29,25 @@ pub fn accept_ours(job: &mut Job) -> Outcome {
 /// Accept by the reference.
 pub fn accept_theirs(job: &mut Job) -> Outcome {
     theirs(reference::accept(&job.track, &job.marks))
+}
+
+/// List by the proved library.
+pub fn list_ours(job: &mut Job) -> Outcome {
+    match station::list_into(&job.track, &job.marks, &mut job.new.rows) {
+        Err(answer) => ours(answer),
+        Ok(count) => (0, 0, 0, 0, count),
+    }
+}
+
+/// List by the reference, whose records are put into the rows.
+pub fn list_theirs(job: &mut Job) -> Outcome {
+    let mut records = [Sector::default(); MOST_SECTORS];
+    let (answer, count) = reference::list(&job.track, &job.marks, &mut records);
+    for (row, record) in job.new.rows.iter_mut().zip(&records[..count]) {
+        *row = record.row();
+    }
+    let (number, fault, place, ..) = theirs(answer);
+    (number, fault, place, 0, count)
 }
 
 /// Find by the proved library; an empty part may lie anywhere.

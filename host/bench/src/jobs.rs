@@ -1,6 +1,7 @@
 //! The tracks of a pack, with what is asked of each and the buffers it is written to.
 
 use reference::generate::{bit_cells_of, wanted_correct, Rng, WantedCorrect};
+use station::MOST_SECTORS;
 
 /// Cylinders times heads of a pack.
 pub const PACK: u64 = 203 * 10;
@@ -21,6 +22,7 @@ pub struct Buffers {
     pub track: Vec<u8>,
     pub marks: Vec<u8>,
     pub bit_cells: Vec<u8>,
+    pub rows: Vec<[u16; 8]>,
 }
 
 /// Makes a track from a seed.
@@ -49,6 +51,7 @@ impl Buffers {
             track: vec![0xA5; length],
             marks: vec![0x5A; length],
             bit_cells: vec![0xC3; 2 * length],
+            rows: vec![[0x3C5A; 8]; MOST_SECTORS],
         }
     }
 }

@@ -1,4 +1,4 @@
-//! Times of Accept, Find, Correct, From cells and To cells over a full pack, beside those of the reference.
+//! Times of Accept, List, Find, Correct, From cells and To cells over a full pack, beside those of the reference.
 //!
 //! Both get the same tracks in the same buffers, as they come and uncleared, and take turns within one run.
 
@@ -18,8 +18,9 @@ const TURNS: usize = 7;
 type Row = (&'static str, Call, Call);
 
 /// The calls on bytes and marks.
-const TRACK_CALLS: [Row; 3] = [
+const TRACK_CALLS: [Row; 4] = [
     ("accept", accept_ours, accept_theirs),
+    ("list", list_ours, list_theirs),
     ("find", find_ours, find_theirs),
     ("correct", correct_ours, correct_theirs),
 ];
@@ -38,7 +39,7 @@ fn time(jobs: &mut [Job], call: Call) -> Duration {
     start.elapsed()
 }
 
-/// Demands the same outcomes and the same written bytes, marks and bit cells.
+/// Demands the same outcomes and the same written bytes, marks, rows and bit cells.
 fn compare(jobs: &mut [Job], ours: Call, theirs: Call) {
     for (seed, job) in jobs.iter_mut().enumerate() {
         let before = job.new.clone();

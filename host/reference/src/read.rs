@@ -14,6 +14,20 @@ pub struct Sector {
     pub dl: u16,
     pub key_place: usize,
     pub data_place: usize,
+    /// The place after the data block's last byte.
+    pub end: usize,
+    /// How many bytes follow it up to the next count's opening, or up to index.
+    pub gap: usize,
+}
+
+impl Sector {
+    /// The record as eight numbers: flag, S, KL, DL, places of key and data, end and gap.
+    pub fn row(&self) -> [u16; 8] {
+        let places = [self.key_place, self.data_place, self.end, self.gap];
+        let [key, data, end, gap] = places.map(|place| place as u16);
+        let (flag, s, kl) = (self.flag.into(), self.s.into(), self.kl.into());
+        [flag, s, kl, self.dl, key, data, end, gap]
+    }
 }
 
 /// The part of a sector that is asked for.
@@ -49,7 +63,7 @@ pub fn list(track: &[u8], marks: &[u8], out: &mut [Sector]) -> (Answer, usize) {
     }
 }
 
-/// The record of one sector; information starts after a six-byte opening.
+/// The record of one sector; information starts after a six-byte opening, and the span ends at the next one or at index.
 fn sector_record(placed: &Placed) -> Sector {
     Sector {
         flag: placed.fields.flag,
@@ -58,6 +72,8 @@ fn sector_record(placed: &Placed) -> Sector {
         dl: placed.fields.dl,
         key_place: placed.blocks.key.map_or(0, |opening| opening + 6),
         data_place: placed.blocks.data + 6,
+        end: placed.blocks.end,
+        gap: placed.count.span.end - placed.blocks.end,
     }
 }
 

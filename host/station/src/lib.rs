@@ -18,11 +18,13 @@
 //! ```
 
 mod bit_cells;
+mod listing;
 mod reading;
 mod result;
 mod writing;
 
 pub use bit_cells::{from_cells, to_cells};
+pub use listing::{list, list_into, Sector, MOST_SECTORS};
 pub use reading::{
     accept, candidates, find, pair_find, walk_from, Candidates, Lent, Wanted, Which,
 };

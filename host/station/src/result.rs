@@ -157,6 +157,20 @@ impl Word {
         Err(answer)
     }
 
+    /// How many sectors List listed, or its refusal.
+    pub fn sector_count(self) -> Result<usize, Answer> {
+        let count = self.bits(32, 48) as usize;
+        debug_assert_eq!(self.bits(15, 16), 0, "unused bits of {:016x}", self.0);
+        debug_assert_eq!(self.bits(48, 64), 0, "unused bits of {:016x}", self.0);
+        let answer = self.answer();
+        if answer.is_done() {
+            debug_assert_eq!(answer, Answer::DONE, "place of {:016x}", self.0);
+            return Ok(count);
+        }
+        debug_assert_eq!(count, 0, "refusal with sectors in {:016x}", self.0);
+        Err(answer)
+    }
+
     /// What Walk gives, which has its own layout: the flag stands where other calls have the fault.
     pub fn candidate(self) -> Result<Candidate, Answer> {
         let number = self.number();
@@ -236,6 +250,23 @@ mod tests {
             let taken = std::panic::catch_unwind(|| Word(word).answer());
             assert!(taken.is_err(), "{word:016x}");
         }
+        // Of List: a place without a refusal, sectors with one, bit 15, and the bits behind the number of sectors.
+        for word in [0x1_0001_0000, 0x1_0000_0001, 0x1_0000_8000, 1 << 48] {
+            let taken = std::panic::catch_unwind(|| Word(word).sector_count());
+            assert!(taken.is_err(), "{word:016x}");
+        }
+    }
+
+    /// The number of sectors from its own bits, and List's refusals.
+    #[test]
+    fn sectors_of_a_result() {
+        assert_eq!(Word(0x0000_0043_0000_0000).sector_count(), Ok(67));
+        let refused = Answer {
+            number: 11,
+            fault: Some(Fault::Check),
+            place: 0x7A,
+        };
+        assert_eq!(Word(0x007A_020B).sector_count(), Err(refused));
     }
 
     /// Every field of a step from its own bits.

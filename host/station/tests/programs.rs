@@ -3,7 +3,7 @@
 mod common;
 
 use common::{answer, expected, told, Tally};
-use reference::generate::{damaged, pair, sound, spoiled, Rng};
+use reference::generate::{damaged, pair, sound, sound_plan, spoiled, Rng, Sound};
 use reference::{find, pair_find, Part};
 use station::Answer;
 use std::io::{ErrorKind, Write};
@@ -15,16 +15,26 @@ fn repository() -> PathBuf {
     Path::new(env!("CARGO_MANIFEST_DIR")).join("../..")
 }
 
-/// The folder named by ISO3561_BIN, or the repository's own, has the program.
-fn program(name: &str) -> PathBuf {
-    let folder = match std::env::var_os("ISO3561_BIN") {
+/// A program in the folder that the variable names, or in the repository's own, where the command puts it.
+fn built(variable: &str, own_folder: &str, command: &str, name: &str) -> PathBuf {
+    let folder = match std::env::var_os(variable) {
         Some(folder) => PathBuf::from(folder),
-        None => repository().join("target/bin"),
+        None => repository().join(own_folder),
     };
     let path = folder.join(name);
     let shown = path.display();
-    assert!(path.is_file(), "{shown} is missing: run `rt check` first");
+    assert!(path.is_file(), "{shown} is missing: run `{command}` first");
     path
+}
+
+/// A program of the proved code.
+fn program(name: &str) -> PathBuf {
+    built("ISO3561_BIN", "target/bin", "rt check", name)
+}
+
+/// A C program.
+fn example(name: &str) -> PathBuf {
+    built("ISO3561_EXAMPLES", "target/examples", "make examples", name)
 }
 
 /// Writes the input in pieces; a program that has seen enough may stop reading.
@@ -305,4 +315,173 @@ fn sample_is_listed() {
     let lines = "100 7 0\n0 0 0 8 90\n1 128 3 80 182\n";
     assert_eq!(String::from_utf8_lossy(&printed), lines);
     assert_eq!(reference::tracklist(&sample), lines.as_bytes());
+}
+
+/// A piece of a layout: place, length and what it is.
+type Piece = (usize, usize, String);
+
+/// What the reader prints for these files, and its status.
+fn run_reader(test: &str, inputs: &[Vec<u8>]) -> (String, Option<i32>) {
+    let folder = Path::new(env!("CARGO_TARGET_TMPDIR"));
+    let mut command = Command::new(example("reader"));
+    for (nth, input) in inputs.iter().enumerate() {
+        let file = folder.join(format!("reader-{test}-{nth}.bin"));
+        std::fs::write(&file, input).expect("the folder takes a file");
+        command.arg(file);
+    }
+    let output = command.output().expect("the program ends");
+    assert!(output.stderr.is_empty(), "nothing is wrong with the call");
+    let text = String::from_utf8(output.stdout).expect("the reader prints text");
+    (text, output.status.code())
+}
+
+/// One line of a layout taken apart.
+fn piece_of(line: &str) -> Piece {
+    let mut words = line.split_whitespace();
+    let mut number = || words.next()?.parse().ok();
+    let (place, length) = (number().expect(line), number().expect(line));
+    (place, length, words.collect::<Vec<_>>().join(" "))
+}
+
+/// The layouts that the reader printed; each must begin at index, its pieces follow on, and its last line have their sum and L.
+fn layouts(text: &str) -> Vec<Vec<Piece>> {
+    let (mut layouts, mut lines) = (vec![], text.lines());
+    while lines.any(|line| line == "layout: place, length and what it is") {
+        let (mut pieces, mut next) = (vec![], 0);
+        let last = loop {
+            let line = lines.next().expect("a layout has a last line");
+            if !line.starts_with("  ") {
+                break line;
+            }
+            let piece = piece_of(line);
+            assert_eq!(piece.0, next, "{line}");
+            next += piece.1;
+            pieces.push(piece);
+        };
+        assert_eq!(last, format!("layout: sum {next}, L {next}"));
+        layouts.push(pieces);
+    }
+    layouts
+}
+
+/// The pieces of a track as it was planned and built.
+fn planned(Sound { plan, built }: &Sound) -> Vec<Piece> {
+    let mut lengths = vec![(plan.home, "index gap".to_string())];
+    let gap = |length| (length, "gap".to_string());
+    lengths.extend([(14, "home".to_string()), gap(11)]);
+    for (index, (sector, places)) in plan.sectors.iter().zip(&built.places).enumerate() {
+        let of = |what: &str| format!("{what} of S {}", sector.s);
+        lengths.extend([(if index == 0 { 18 } else { 20 }, of("count")), gap(11)]);
+        if !sector.key.is_empty() {
+            lengths.extend([(sector.key.len() + 9, of("key")), gap(11)]);
+        }
+        let data = match sector.data.len() {
+            0 if places.is_ten() => 10,
+            0 => 7,
+            dl => dl + 9,
+        };
+        lengths.extend([(data, of("data")), gap(built.gap_after(index))]);
+    }
+    let mut next = 0;
+    let with_place = |(length, what)| {
+        next += length;
+        (next - length, length, what)
+    };
+    lengths.into_iter().map(with_place).collect()
+}
+
+/// The reader's line for Accept's answer.
+fn accept_line(done: Answer) -> String {
+    let fault = done
+        .fault
+        .map_or(String::new(), |fault| format!(", {fault}"));
+    format!("accept: {} at {}{fault}\n", done.number, done.place)
+}
+
+/// Accept's answer for an input, by the reference.
+fn judged(input: &[u8]) -> Answer {
+    let (track, marks) = input.split_at(input.len() / 2);
+    expected(reference::accept(track, marks))
+}
+
+/// The reader prints the layout of an accepted track as it was planned, its pieces from index to index, and none of a refused one.
+#[test]
+fn reader_prints_the_layout() {
+    let mut tally = Tally::new("reader", 2_400);
+    for seed in tally.seeds() {
+        let sound = sound_plan(seed);
+        let input = match seed % 2 {
+            0 => joined((sound.built.track.clone(), sound.built.marks.clone())),
+            _ => input_of(seed / 2, &mut Rng::new(seed)),
+        };
+        let done = judged(&input);
+        tally.count(done);
+        let (text, status) = run_reader("layout", std::slice::from_ref(&input));
+        assert!(text.starts_with(&accept_line(done)), "seed {seed}: {text}");
+        assert_eq!(status, Some(i32::from(!done.is_done())), "seed {seed}");
+        let layouts = layouts(&text);
+        assert_eq!(layouts.len(), usize::from(done.is_done()), "seed {seed}");
+        let lengths = layouts.iter().flatten().map(|piece| piece.1);
+        assert!(!done.is_done() || lengths.sum::<usize>() == input.len() / 2);
+        if seed % 2 == 0 {
+            assert_eq!(layouts[0], planned(&sound), "seed {seed}");
+        }
+    }
+    tally.finish(2_400, &[0, 1, 2, 3, 4, 5, 6, 7, 8, 9, 10, 11, 13]);
+}
+
+/// Of two files the reader prints the layout of each accepted track; its status is the first one's.
+#[test]
+fn reader_prints_both_layouts() {
+    let mut tally = Tally::new("reader with two files", 800);
+    let mut both = 0;
+    for seed in tally.seeds() {
+        let inputs = two_inputs(seed, &mut Rng::new(seed));
+        let done = inputs.each_ref().map(|input| judged(input));
+        done.iter().for_each(|&done| tally.count(done));
+        let (text, status) = run_reader("layouts", &inputs);
+        let lengths = layouts(&text).into_iter();
+        let lengths = lengths.map(|pieces| pieces.iter().map(|piece| piece.1).sum());
+        let accepted = inputs.iter().zip(done).filter(|(_, done)| done.is_done());
+        let wanted: Vec<usize> = accepted.map(|(input, _)| input.len() / 2).collect();
+        assert_eq!(lengths.collect::<Vec<usize>>(), wanted, "seed {seed}");
+        assert_eq!(status, Some(i32::from(!done[0].is_done())), "seed {seed}");
+        for done in done {
+            assert!(text.contains(&accept_line(done)), "seed {seed}: {text}");
+        }
+        both += usize::from(wanted.len() == 2);
+    }
+    assert!(both > 100, "{both}");
+    tally.finish(1_600, &[0, 1, 2, 3, 4, 5, 6, 7, 8, 9, 10, 11, 13]);
+}
+
+/// The beginning of what the reader prints for the sample, to the letter.
+#[test]
+fn layout_of_the_sample() {
+    let sample = std::fs::read(repository().join("samples/case5.bin")).expect("the sample");
+    let (text, status) = run_reader("sample", &[sample]);
+    let lines = "accept: 0 at 0
+layout: place, length and what it is
+     0   30  index gap
+    30   14  home
+    44   11  gap
+    55   18  count of S 0
+    73   11  gap
+    84   17  data of S 0
+   101   21  gap
+   122   20  count of S 1
+   142   11  gap
+   153   12  key of S 1
+   165   11  gap
+   176   89  data of S 1
+   265 3641  gap
+layout: sum 3906, L 3906
+count at 55: flag 0, S 0, KL 0, DL 8
+  data: 8 bytes
+    49 53 4f 20 33 35 36 31
+count at 122: flag 128, S 1, KL 3, DL 80
+";
+    assert!(text.starts_with(lines), "{text}");
+    assert!(text.ends_with("\nwalk: 12\n"), "{text}");
+    assert_eq!(status, Some(0));
 }

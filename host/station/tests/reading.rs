@@ -2,10 +2,8 @@
 
 mod common;
 
-use common::{answer, expected, Tally, Track};
-use reference::generate::{
-    damaged, jumbled, pair, sound, spoiled, Block, Built, Places, Plan, PlannedSector, Rng, Spoiled,
-};
+use common::{answer, any_track, expected, lent, Tally, Track};
+use reference::generate::{damaged, pair, Block, Built, Places, Plan, PlannedSector, Rng, Spoiled};
 use reference::{Address, Part};
 use station::{Answer, Fault, Lent, Wanted, Which};
 
@@ -21,21 +19,6 @@ const SECOND: [u8; 14] = [0, 1, 2, 3, 4, 5, 6, 7, 8, 9, 10, 11, 12, 13];
 const WALK: [u8; 3] = [0, 1, 12];
 /// More candidates than any track holds.
 const MANY: usize = 300;
-
-/// One of four tracks is sound, one of eight is sound but for a block, and one of eight is jumbled.
-fn track_of(seed: u64) -> Track {
-    match seed % 8 {
-        0 | 4 => sound(seed),
-        6 => spoiled(seed),
-        7 => jumbled(seed),
-        _ => damaged(seed),
-    }
-}
-
-/// Both slices of a track.
-fn lent(track: &Track) -> Lent<'_> {
-    (&track.0, &track.1)
-}
 
 /// The same wish in both types.
 fn wish(rng: &mut Rng) -> (Wanted, Part) {
@@ -79,7 +62,7 @@ fn compare_part(
 fn accept_as_the_reference() {
     let mut tally = Tally::new("accept", 24_000);
     for seed in tally.seeds() {
-        let (track, marks) = track_of(seed);
+        let (track, marks) = any_track(seed);
         let theirs = reference::accept(&track, &marks);
         let ours = station::accept(&track, &marks);
         assert_eq!(ours, expected(theirs), "seed {seed}");
@@ -92,7 +75,7 @@ fn accept_as_the_reference() {
 fn find_as_the_reference() {
     let mut tally = Tally::new("find", 12_000);
     for seed in tally.seeds() {
-        let whole = track_of(seed);
+        let whole = any_track(seed);
         let (track, marks) = lent(&whole);
         let mut rng = Rng::new(seed ^ 0xF14D);
         for _ in 0..2 {
@@ -121,7 +104,7 @@ fn second_is_unfit(seed: u64) -> bool {
 fn two_tracks(seed: u64) -> (Track, Track) {
     let pair = pair(seed);
     match seed % 5 {
-        _ if second_is_unfit(seed) => (track_of(seed), unfit_track(seed)),
+        _ if second_is_unfit(seed) => (any_track(seed), unfit_track(seed)),
         2 | 3 => (pair.first, pair.second),
         _ => (pair.first, damaged(seed)),
     }
@@ -201,7 +184,7 @@ fn compare_iterator((track, marks): Lent, seed: u64) {
 fn walk_as_the_reference() {
     let mut tally = Tally::new("walk", 6_000);
     for seed in tally.seeds() {
-        let whole = track_of(seed);
+        let whole = any_track(seed);
         let mut from = Some(0);
         while let Some(place) = from {
             from = compare_step(lent(&whole), place, &mut tally, seed);
@@ -218,7 +201,7 @@ fn walk_as_the_reference() {
 fn walk_from_every_place() {
     let mut tally = Tally::fixed("walk from every place", 16);
     for seed in tally.seeds() {
-        let whole = track_of(seed);
+        let whole = any_track(seed);
         if reference::accept(&whole.0, &whole.1).number == 1 {
             continue;
         }

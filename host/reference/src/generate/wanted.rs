@@ -123,17 +123,6 @@ fn sector_length(index: usize, kl: usize, dl: usize) -> usize {
     count + key + GAP + data
 }
 
-/// End of the last sector's data block on an accepted track.
-fn last_end(track: &[u8], last: &Sector) -> usize {
-    let behind = &track[last.data_place + 1..];
-    let length = match usize::from(last.dl) {
-        0 if behind.starts_with(&EMPTY_TRAILER) => 1 + TRAILER,
-        0 => 1,
-        dl => dl + TRAILER,
-    };
-    last.data_place + length
-}
-
 /// Random arguments of Add for this track.
 pub fn wanted_add(seed: u64, track: &[u8], marks: &[u8]) -> WantedAdd {
     let mut rng = Rng::new(seed ^ 0xADD0_0ADD);
@@ -142,7 +131,7 @@ pub fn wanted_add(seed: u64, track: &[u8], marks: &[u8]) -> WantedAdd {
     let used = sectors.last().map_or(0, |last| {
         let sizes = usize::from(last.kl) + usize::from(last.dl);
         let but_for_data = sector_length(1, key.len(), 1) - 1;
-        last_end(track, last) + 21 + sizes / 20 + but_for_data
+        last.end + 21 + sizes / 20 + but_for_data
     });
     let room = track.len().saturating_sub(GAP_BEFORE_INDEX + used);
     let absent = |s: &u8| sectors.iter().all(|sector| sector.s != *s);

@@ -34,6 +34,7 @@ fn sound_tracks_are_accepted_and_listed() {
             assert_eq!(usize::from(record.dl), sector.data.len());
             assert_eq!(record.key_place, places.key);
             assert_eq!(record.data_place, places.data);
+            assert_eq!(record.end, places.end);
         }
     }
 }
@@ -423,7 +424,9 @@ fn wanted_additions() {
         let (done, new, new_marks) = addition(&track, &marks, &w);
         seen[usize::from(done.number)] += 1;
         if done.number == 0 {
-            let (old, records) = (listed(&track, &marks), listed(&new, &new_marks));
+            let (mut old, records) = (listed(&track, &marks), listed(&new, &new_marks));
+            let last = old.last_mut().expect("a track has sector 0");
+            last.gap = 21 + (usize::from(last.kl) + usize::from(last.dl)) / 20;
             assert_eq!(records[..old.len()], old);
             assert_eq!(records.len(), old.len() + 1);
             let (_, key) = find(&new, &new_marks, w.s, Part::Key);

@@ -10,9 +10,14 @@ const NOISE: Sector = Sector {
     dl: 0xEEEE,
     key_place: 9_999,
     data_place: 9_998,
+    end: 9_997,
+    gap: 9_996,
 };
 
-fn record(flag: u8, s: u8, kl: u8, dl: u16, key_place: usize, data_place: usize) -> Sector {
+/// A record of flag, S, KL and DL, of the places of key and data, and of end and gap.
+fn record(fields: (u8, u8, u8, u16), places: (usize, usize), end: usize, gap: usize) -> Sector {
+    let (flag, s, kl, dl) = fields;
+    let (key_place, data_place) = places;
     Sector {
         flag,
         s,
@@ -20,6 +25,8 @@ fn record(flag: u8, s: u8, kl: u8, dl: u16, key_place: usize, data_place: usize)
         dl,
         key_place,
         data_place,
+        end,
+        gap,
     }
 }
 
@@ -54,9 +61,9 @@ fn list_fills_records_and_keeps_the_rest() {
         let mut out = vec![NOISE; length];
         let done = list(&built.track, &built.marks, &mut out);
         assert_eq!(done, (answer(0, 0), 3));
-        assert_eq!(out[0], record(0x00, 5, 0, 8, 0, 90));
-        assert_eq!(out[1], record(0x80, 6, 3, 80, 178, 201));
-        assert_eq!(out[2], record(0x00, 7, 0, 0, 0, 361));
+        assert_eq!(out[0], record((0x00, 5, 0, 8), (0, 90), 101, 40));
+        assert_eq!(out[1], record((0x80, 6, 3, 80), (178, 201), 284, 40));
+        assert_eq!(out[2], record((0x00, 7, 0, 0), (0, 361), 362, 3_544));
         assert!(out[3..].iter().all(|&rest| rest == NOISE));
     }
 }

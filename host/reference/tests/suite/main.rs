@@ -5,6 +5,7 @@ mod bit_cells;
 mod common;
 mod empty_block;
 mod empty_block_write;
+mod end_and_gap;
 mod find;
 mod generated;
 mod generated_empty;

@@ -1,7 +1,9 @@
 //! Seeds, tallies, buffers and wanted fields of the comparisons; each test file uses a part.
 #![allow(dead_code)]
 
-use reference::generate::{Rng, WantedAdd, WantedBlank, WantedCorrect};
+use reference::generate::{
+    damaged, jumbled, sound, spoiled, Rng, WantedAdd, WantedBlank, WantedCorrect,
+};
 use station::{Address, Answer, Fault, Lent, NewBody, NewSector, NewTrack, Wanted};
 use std::collections::{BTreeMap, BTreeSet};
 use std::io::Write;
@@ -129,6 +131,16 @@ pub fn answer(number: u8, place: usize) -> Answer {
         number,
         fault: None,
         place,
+    }
+}
+
+/// One of four tracks is sound, one of eight is sound but for a block, and one of eight is jumbled.
+pub fn any_track(seed: u64) -> Track {
+    match seed % 8 {
+        0 | 4 => sound(seed),
+        6 => spoiled(seed),
+        7 => jumbled(seed),
+        _ => damaged(seed),
     }
 }
 
