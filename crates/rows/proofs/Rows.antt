@@ -3,7 +3,7 @@ use mathlib.Core.Path.{_≡_, refl, sym, ap, _∙_, subst}
 use Prim.Native.Nat.{ℕ, zero, suc, _%_, _≤_, _<_}
 use native.Mathlib.Nat.{le-of-suc-le-suc, mod-eq-of-lt}
 use native.Mathlib.Omega.{arith}
-use mathlib.Core.List.{List, [], _∷_, _++_, map}
+use mathlib.Core.List.{List, [], _∷_, _++_}
 use lib.ListN.{length, drop, getD, length-map, List·getD-append, List·getD-map}
 use Rattle.base.proofs.Filled.{filled as filledTo, filled-whole}
 use Rattle.format.specs.Answer.{lentWrong}

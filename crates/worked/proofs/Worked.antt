@@ -2,7 +2,7 @@
 use mathlib.Core.Path.{_≡_, refl, ap₂}
 use Prim.Native.Nat.{ℕ}
 use native.Mathlib.Omega.{arith}
-use mathlib.Core.Bool.{true, _&&_}
+use mathlib.Core.Bool.{true}
 use mathlib.Core.List.{List, [], _∷_}
 use lib.Dec.{eqb}
 use borrow.Author.Tests.{eqb-true}
@@ -18,12 +18,14 @@ use Rattle.format.specs.Written.{dataSize, gapOne, countInfo, writtenBlock, wri
 use Rattle.format.specs.Span.{unmarkedRun, runsToIndex, spanLength, spanRest, beforeOpening, laterSpans, spans}
 use Rattle.format.specs.Sector.{sectorIn, settle, judgeCount, readBlocks, judgeSector, readSpan, contentRight}
 use Rattle.format.specs.Accept.{judgeMarks, readSpans, placedFrom, among, judgeNumbers, judgeBehind, acceptCells, accept, endOf, fromNumber}
+use Rattle.format.specs.Listing.{listed, list}
+use Rattle.format.specs.Pieces.{keyPieces, blockLength, sectorPieces, recordPieces, trackPieces}
 use Rattle.format.specs.Blank.{namedBy, blankRight, writtenHead, blankSector, blank}
 use Rattle.format.specs.Add.{judgeAbsent, addedFlag, addedSector, addedTo, addCells, add}
 use Rattle.format.specs.Correct.{withContent, rewrittenFrom, correctCells}
 use Rattle.base.proofs.Tests.{and-both}
-use Rattle.worked.specs.Tracks.{address, blankOf, twoSectors, acceptOf, numbers, placesIn, places, placesOf, sectorOf, byHand, answerByHand, answerOfZeros, threeByHand, spoiledAt, answerSpoiled, closedGap, gapsByHand, placesByHand, answerWithoutZero, endIn, cellsOf, addedBehind, laidOutAfresh}
-use Rattle.worked.specs.Table.{Case, sameNumbers, allHold, EachHolds, starred, further, faults, emptyBlocks}
+use Rattle.worked.specs.Tracks.{address, blankOf, twoSectors, acceptOf, numbers, placesIn, places, placesOf, sectorOf, byHand, answerByHand, answerOfZeros, threeByHand, spoiledAt, answerSpoiled, closedGap, gapsByHand, placesByHand, answerWithoutZero, endIn, cellsOf, addedBehind, laidOutAfresh, recordNumbers, listedIn, piecesOf, piecesWritten}
+use Rattle.worked.specs.Table.{Case, sameNumbers, allHold, EachHolds, starred, further, faults, emptyBlocks, records}
 use Rattle.format.specs.Blocks.{partAt, blocksAt, judgeFit}
 
 same-equal : (xs ys : List ℕ) → sameNumbers xs ys ≡ true → xs ≡ ys
@@ -43,7 +45,7 @@ each-holds (x ∷ cs) e =
     let h = and-both (sameNumbers (x .computed) (x .stated)) (allHold cs) e in
     (same-equal (x .computed) (x .stated) (h .0), each-holds cs (h .1))
 
-tables-pass : (allHold starred && (allHold further && (allHold faults && allHold emptyBlocks))) ≡ true
+tables-pass : (allHold starred ≡ true) × (allHold further ≡ true) × (allHold faults ≡ true) × (allHold emptyBlocks ≡ true) × (allHold records ≡ true)
 unfolding digits coefficients divisor bringDown remainder checkBytes
     lengthRight marksLegal lentForWriting lentForReading cells bytesOf marksOf opens closing closedAfter
     homeFlagRight sequenceRight countFlagRight namesItself addressIn addressBytes addressInRange sameAddress addressRight
@@ -55,26 +57,25 @@ unfolding digits coefficients divisor bringDown remainder checkBytes
     contentRight namedBy blankRight writtenHead blankSector blank bothLent endOf fromNumber judgeAbsent addedFlag addedSector addedTo addCells add withContent rewrittenFrom correctCells
     address blankOf twoSectors acceptOf numbers placesIn places placesOf sectorOf byHand answerByHand answerOfZeros threeByHand spoiledAt answerSpoiled
     closedGap gapsByHand placesByHand answerWithoutZero endIn cellsOf addedBehind laidOutAfresh sameNumbers allHold starred further faults emptyBlocks
-tables-pass = refl
+    listed list keyPieces blockLength sectorPieces recordPieces trackPieces recordNumbers listedIn piecesOf piecesWritten records
+tables-pass = (refl, refl, refl, refl, refl)
 
 -- The starred worked numbers.
 pub starred-hold : EachHolds starred
-starred-hold = each-holds starred (and-both (allHold starred) _ tables-pass .0)
-
-others-pass : (allHold further && (allHold faults && allHold emptyBlocks)) ≡ true
-others-pass = and-both (allHold starred) _ tables-pass .1
+starred-hold = each-holds starred (tables-pass .0)
 
 -- Those of the numbers 6 to 8 that have no star.
 pub further-hold : EachHolds further
-further-hold = each-holds further (and-both (allHold further) _ others-pass .0)
-
-blocks-pass : (allHold faults ≡ true) × (allHold emptyBlocks ≡ true)
-blocks-pass = and-both (allHold faults) (allHold emptyBlocks) (and-both (allHold further) _ others-pass .1)
+further-hold = each-holds further (tables-pass .1)
 
 -- The table of the second number.
 pub faults-hold : EachHolds faults
-faults-hold = each-holds faults (blocks-pass .0)
+faults-hold = each-holds faults (tables-pass .2)
 
 -- The table of the data block where DL = 0.
 pub empty-blocks-hold : EachHolds emptyBlocks
-empty-blocks-hold = each-holds emptyBlocks (blocks-pass .1)
+empty-blocks-hold = each-holds emptyBlocks (tables-pass .3)
+
+-- The table of sector records.
+pub records-hold : EachHolds records
+records-hold = each-holds records (tables-pass .4)

@@ -1,4 +1,4 @@
--- The worked numbers as one table: what the definitions compute beside what the scope document states; and tables of the second number and of the data block without information.
+-- The worked numbers as one table: what the definitions compute beside what the scope document states; and tables of the second number, of the data block without information, and of sector records.
 use mathlib.Core.Path.{_≡_}
 use Prim.Native.Nat.{ℕ}
 use mathlib.Core.Bool.{Bool, true, false, _&&_}
@@ -6,10 +6,14 @@ use mathlib.Core.List.{List, [], _∷_, _++_}
 use lib.ListN.{replicate}
 use lib.Dec.{eqb}
 use Rattle.crc.specs.Check.{checkBytes}
-use Rattle.format.specs.Judged.{answerOf}
+use Rattle.format.specs.Judged.{good, then, answerOf}
+use Rattle.format.specs.Lent.{cells}
 use Rattle.format.specs.Opening.{closing}
 use Rattle.format.specs.Address.{addressBytes}
-use Rattle.worked.specs.Tracks.{address, blankOf, twoSectors, acceptOf, numbers, placesOf, answerByHand, answerOfZeros, answerSpoiled, closedGap, placesByHand, answerWithoutZero, endIn, addedBehind, laidOutAfresh}
+use Rattle.format.specs.Written.{gapOne}
+use Rattle.format.specs.Add.{addCells}
+use Rattle.format.specs.Correct.{correctCells}
+use Rattle.worked.specs.Tracks.{address, blankOf, twoSectors, acceptOf, numbers, placesOf, answerByHand, answerOfZeros, threeByHand, answerSpoiled, closedGap, gapsByHand, placesByHand, answerWithoutZero, endIn, addedBehind, laidOutAfresh, listedIn, piecesOf, piecesWritten}
 
 -- A row of the table.
 pub record Case : Type 0 where
@@ -116,4 +120,19 @@ emptyBlocks =
     ∷ record { computed = addedBehind (closedGap 100); stated = 0x00 ∷ 0x00 ∷ 0x00 ∷ 0x00 ∷ 0xFF ∷ 0x0E ∷ 0x00 ∷ 0xFF ∷ 0xFF ∷ 0xCC ∷ (replicate 21 0xFF ++ replicate 4 0x00) }
     ∷ record { computed = addedBehind (0xFF ∷ 0xFF ∷ replicate 100 0xA5); stated = 0x00 ∷ 0x00 ∷ 0x00 ∷ 0x00 ∷ 0xFF ∷ 0x0E ∷ 0x00 ∷ (replicate 21 0xFF ++ (replicate 4 0x00 ++ 0xFF ∷ 0x1FF ∷ 0x1FF ∷ [])) }
     ∷ record { computed = laidOutAfresh (closedGap 21); stated = 0x00 ∷ 0x00 ∷ 0x00 ∷ 0x00 ∷ 0xFF ∷ 0x0E ∷ 0x00 ∷ (replicate 21 0xFF ++ replicate 4 0x00) }
+    ∷ []
+
+-- Sector records and the pieces of tracks. Number 5: the records of both sectors, and a list of 66. The pieces of number 5's track; of one with three sectors; with ten bytes of data block
+-- where DL = 0, before another sector and at index. The pieces after Add behind a gap of 80 bytes and after Correct before one of 40.
+unfoldable pub records : List Case
+records =
+    record { computed = listedIn 67 (blankOf 3906 8); stated = 0 ∷ 0 ∷ 0 ∷ 8 ∷ 0 ∷ 90 ∷ 101 ∷ 3805 ∷ [] }
+    ∷ record { computed = listedIn 67 twoSectors; stated = 0 ∷ 0 ∷ 0 ∷ 8 ∷ 0 ∷ 90 ∷ 101 ∷ 21 ∷ 128 ∷ 1 ∷ 3 ∷ 80 ∷ 159 ∷ 182 ∷ 265 ∷ 3641 ∷ [] }
+    ∷ record { computed = listedIn 66 twoSectors; stated = 1 ∷ 0 ∷ [] }
+    ∷ record { computed = piecesWritten (then twoSectors (λ p. good (cells (p .track) (p .marks)))); stated = 30 ∷ 14 ∷ 11 ∷ 18 ∷ 11 ∷ 17 ∷ 21 ∷ 20 ∷ 11 ∷ 12 ∷ 11 ∷ 89 ∷ 3641 ∷ [] }
+    ∷ record { computed = piecesOf threeByHand; stated = 30 ∷ 14 ∷ 11 ∷ 18 ∷ 11 ∷ 17 ∷ 21 ∷ 20 ∷ 11 ∷ 12 ∷ 11 ∷ 13 ∷ 21 ∷ 20 ∷ 11 ∷ 7 ∷ 13 ∷ [] }
+    ∷ record { computed = piecesOf (gapsByHand 0 (closedGap 21) (replicate 13 0xFF)); stated = 30 ∷ 14 ∷ 11 ∷ 18 ∷ 11 ∷ 10 ∷ 21 ∷ 20 ∷ 11 ∷ 7 ∷ 13 ∷ [] }
+    ∷ record { computed = piecesOf (gapsByHand 0 (replicate 21 0xFF) (closedGap 13)); stated = 30 ∷ 14 ∷ 11 ∷ 18 ∷ 11 ∷ 7 ∷ 21 ∷ 20 ∷ 11 ∷ 10 ∷ 13 ∷ [] }
+    ∷ record { computed = piecesWritten (addCells gapOne (gapsByHand 0 (replicate 40 0xFF) (replicate 80 0xFF)) 0 2 [] []); stated = 30 ∷ 14 ∷ 11 ∷ 18 ∷ 11 ∷ 7 ∷ 40 ∷ 20 ∷ 11 ∷ 7 ∷ 21 ∷ 20 ∷ 11 ∷ 7 ∷ 21 ∷ [] }
+    ∷ record { computed = piecesWritten (correctCells gapOne (gapsByHand 0 (replicate 40 0xFF) (replicate 13 0xFF)) 0 [] []); stated = 30 ∷ 14 ∷ 11 ∷ 18 ∷ 11 ∷ 7 ∷ 21 ∷ 20 ∷ 11 ∷ 7 ∷ 32 ∷ [] }
     ∷ []

@@ -1,7 +1,7 @@
 -- The tracks of the worked numbers, and what the table reads off them.
 use Prim.Native.Nat.{ℕ, _+_, _-_}
 use mathlib.Core.Bool.{Bool, true, false}
-use mathlib.Core.List.{List, [], _∷_, _++_}
+use mathlib.Core.List.{List, [], _∷_, _++_, map}
 use lib.ListN.{length, take, drop, replicate}
 use Rattle.format.specs.Answer.{Answer}
 use Rattle.format.specs.Judged.{Judged, good, refused, then, answerOf}
@@ -9,6 +9,8 @@ use Rattle.format.specs.Address.{Address, addressBytes}
 use Rattle.format.specs.Block.{keyOffset, dataOffset, emptyClosing, blockEnd}
 use Rattle.format.specs.Sector.{Sector, openingLength}
 use Rattle.format.specs.Accept.{Placed, Accepted, acceptCells, accept, endOf}
+use Rattle.format.specs.Listing.{Listed, listed, list}
+use Rattle.format.specs.Pieces.{trackPieces}
 use Rattle.format.specs.Written.{Pair, gapOne, homeGap, writtenBlock, writtenSector}
 use Rattle.format.specs.Blank.{blank}
 use Rattle.format.specs.Add.{addCells, add}
@@ -135,3 +137,29 @@ addedBehind z = cellsOf 143 178 (addCells gapOne (gapsByHand 0 (replicate 21 0xF
 -- The cells from 84 to 116 after sector 0 of the track without data and with the gap y got no data anew: its block, its gap, and what follows.
 unfoldable pub laidOutAfresh : List ℕ → List ℕ
 laidOutAfresh y = cellsOf 84 116 (correctCells gapOne (gapsByHand 0 y (replicate 13 0xFF)) 0 [] [])
+
+-- The numbers of sector records: flag, S, KL, DL, the key's place, the data's place, end and gap of each.
+unfoldable pub recordNumbers : List Listed → List ℕ
+recordNumbers [] = []
+recordNumbers (r ∷ rs) = r .flag ∷ r .number ∷ r .keyLength ∷ r .dataLength ∷ r .keyPlace ∷ r .dataPlace ∷ r .end ∷ r .gap ∷ recordNumbers rs
+
+-- Those that List gives for what was written and a list of n, or its answer.
+unfoldable pub listedIn : ℕ → Judged Pair → List ℕ
+listedIn n j = numbersOr (then j (λ p. list n (p .track) (p .marks)))
+  where
+    numbersOr : Judged (List Listed) → List ℕ
+    numbersOr (good rs) = recordNumbers rs
+    numbersOr (refused a) = numbers a
+
+-- The lengths of the pieces of the cells c, or the answer that refuses them.
+unfoldable pub piecesOf : List ℕ → List ℕ
+piecesOf c = piecesOr (acceptCells c)
+  where
+    piecesOr : Judged Accepted → List ℕ
+    piecesOr (good a) = trackPieces c (a .home .place) (map listed (a .sectors))
+    piecesOr (refused a) = numbers a
+
+-- Those of what was written.
+unfoldable pub piecesWritten : Judged (List ℕ) → List ℕ
+piecesWritten (good c) = piecesOf c
+piecesWritten (refused a) = numbers a

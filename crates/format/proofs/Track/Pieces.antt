@@ -15,10 +15,9 @@ use Rattle.format.specs.Lent.{lengthRight, cells}
 use Rattle.format.specs.Opening.{startsWith, opens}
 use Rattle.format.specs.Home.{Home, firstCountPlace}
 use Rattle.format.specs.Count.{Settled, unsettled, keyLength, dataLength}
-use Rattle.format.specs.Block.{keySize, dataOffset, emptySize, blockEnd, leastGap}
-use Rattle.format.specs.Blocks.{blocksAt}
+use Rattle.format.specs.Block.{keySize, dataOffset, emptySize, blockEnd}
 use Rattle.format.specs.Span.{joined, none}
-use Rattle.format.specs.Sector.{Sector, openingLength, isFirst, settle, readSpan}
+use Rattle.format.specs.Sector.{Sector, openingLength, isFirst, settle}
 use Rattle.format.specs.Accept.{Placed, placedFrom, endOf, Accepted, spansOf, acceptCells, accept}
 use Rattle.format.specs.Listing.{Listed, listed, mostSectors, list}
 use Rattle.format.specs.Pieces.{countLength, keyPieces, blockOpening, blockCells, blockLength, sectorPieces, recordPieces, trackPieces, total, RecordAt, Following}

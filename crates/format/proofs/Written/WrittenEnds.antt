@@ -9,7 +9,7 @@ use Rattle.format.specs.Blocks.{blocksAt}
 use Rattle.format.specs.Span.{none}
 use Rattle.format.specs.Sector.{Sector}
 use Rattle.format.specs.Accept.{Placed, placedFrom, endOf}
-use Rattle.format.specs.Listing.{Listed, listed}
+use Rattle.format.specs.Listing.{listed}
 use Rattle.format.specs.Pieces.{gapsBy}
 use Rattle.format.specs.Written.{writtenSector, sectorSize, gapAfter, reach, writtenSpans}
 use Rattle.format.proofs.Sector.ReadBack.{length-written, written-end}
