@@ -6,6 +6,7 @@ pub mod Pairs
 pub mod Sectors
 pub mod ListAccepted
 pub mod Pieces
+pub mod RecordBounds
 pub mod TakenApart
 pub mod Numbers
 pub mod SharedAddress

@@ -8,6 +8,7 @@ use lib.Dec.{eqb}
 use Rattle.base.specs.Pick.{pick}
 use Rattle.format.specs.Layout.{plainLength, gapLength, homeLength, countTail, blockFrame}
 use Rattle.format.specs.Opening.{startsWith}
+use Rattle.format.specs.Count.{countFlag, countNumber, keyLength, dataLength}
 use Rattle.format.specs.Block.{emptySize, leastGap}
 use Rattle.format.specs.Span.{none}
 use Rattle.format.specs.Sector.{openingLength}
@@ -52,9 +53,18 @@ abbrev pub total : List ℕ → ℕ
 total [] = 0
 total (n ∷ ns) = n + total ns
 
+-- What follows the opening of the count at place p of the cells c.
+abbrev pub countAt : List ℕ → Bool → ℕ → List ℕ
+countAt c first p = drop (p + openingLength first) c
+
 -- The record r is that of the sector whose count opens at place p of the cells c; `last` says that no other follows.
 pub record RecordAt (c : List ℕ) (first last : Bool) (p : ℕ) (r : Listed) : Type 0 where
   pub count-opens : startsWith (countOpening first) (drop p c) ≡ true
+  -- What this count says.
+  pub flag-is : r .flag ≡ countFlag (countAt c first p)
+  pub number-is : r .number ≡ countNumber (countAt c first p)
+  pub key-length-is : r .keyLength ≡ keyLength (countAt c first p)
+  pub data-length-is : r .dataLength ≡ dataLength (countAt c first p)
   -- The places of the information, behind the pieces before it and the block's opening.
   pub key-place : r .keyPlace ≡ pick (eqb (r .keyLength) 0) 0 (p + countLength first + gapLength + plainLength)
   pub data-place : r .dataPlace ≡ p + countLength first + gapLength + total (keyPieces (r .keyLength)) + plainLength

@@ -10,7 +10,7 @@ use Rattle.format.specs.Answer.{lentWrong}
 use Rattle.format.specs.Judged.{Judged, good, refused, answerOf}
 use Rattle.format.specs.Listing.{Listed, mostSectors, list}
 use Rattle.format.proofs.Track.ListAccepted.{list-short, list-long}
-use Rattle.format.proofs.Track.Pieces.{Within, AllWithin, records-within}
+use Rattle.format.proofs.Track.RecordBounds.{Within, AllWithin, records-within}
 use Rattle.listing.specs.declared.Sector.{Sector}
 use Rattle.listing.specs.Filling.{asListed, asRecords, recordsOf, filled}
 use Rattle.listing.proofs.Listed.{listing}

@@ -1,34 +1,34 @@
 -- The pieces of an accepted track add up to its length, and each sector record leads to the next.
-use mathlib.Core.Path.{_≡_, refl, sym, ap, _∙_, subst}
-use Prim.Native.Nat.{ℕ, zero, suc, _+_, _-_, _≤_}
+use mathlib.Core.Path.{_≡_, refl, sym, ap, ap₂, _∙_, subst}
+use Prim.Native.Nat.{ℕ, zero, suc, _+_, _-_, _≤_, _<_}
 use native.Mathlib.Omega.{arith}
 use mathlib.Core.Bool.{Bool, true, false}
 use mathlib.Core.List.{List, [], _∷_, _++_, map, append-assoc}
-use lib.ListN.{length, take, drop, length-append, length-drop}
+use lib.ListN.{length, take, drop, getD, length-append, length-drop, List·getD-append}
 use lib.Seq.{drop-at, take-at, drop-drop, drop-append-le}
 use lib.Dec.{leb, eqb}
-use borrow.Author.Tests.{leb-true, eqb-true}
+use borrow.Author.Tests.{leb-true}
 use Rattle.base.specs.Pick.{pick}
 use Rattle.format.specs.Answer.{lentWrong}
 use Rattle.format.specs.Judged.{good}
-use Rattle.format.specs.Lent.{lengthRight, cells}
+use Rattle.format.specs.Lent.{cells}
 use Rattle.format.specs.Opening.{startsWith, opens}
 use Rattle.format.specs.Home.{Home, firstCountPlace}
-use Rattle.format.specs.Count.{Settled, unsettled, keyLength, dataLength}
+use Rattle.format.specs.Address.{word}
+use Rattle.format.specs.Count.{Settled, unsettled, countFits}
 use Rattle.format.specs.Block.{keySize, dataOffset, emptySize, blockEnd}
 use Rattle.format.specs.Span.{joined, none}
-use Rattle.format.specs.Sector.{Sector, openingLength, isFirst, settle}
+use Rattle.format.specs.Sector.{Sector, openingLength, isFirst, settle, sectorIn}
 use Rattle.format.specs.Accept.{Placed, placedFrom, endOf, Accepted, spansOf, acceptCells, accept}
 use Rattle.format.specs.Listing.{Listed, listed, mostSectors, list}
-use Rattle.format.specs.Pieces.{countLength, keyPieces, blockOpening, blockCells, blockLength, sectorPieces, recordPieces, trackPieces, total, RecordAt, Following}
+use Rattle.format.specs.Pieces.{countAt, countLength, keyPieces, blockOpening, blockCells, blockLength, sectorPieces, recordPieces, trackPieces, total, RecordAt, Following}
 use Rattle.format.specs.Written.{countOpening}
-use Rattle.base.proofs.Tests.{cases, and-both}
-use Rattle.format.proofs.Base.Judged.{good-inj, then-good, require-good}
+use Rattle.base.proofs.Tests.{cases}
+use Rattle.format.proofs.Base.Judged.{good-inj, require-good}
 use Rattle.format.proofs.Cells.Opening.{starts-length, starts-with-append}
 use Rattle.format.proofs.Spans.Shape.{Shape}
 use Rattle.format.proofs.Spans.Cutting.{shape-tail}
-use Rattle.format.proofs.Sector.Sizes.{key-size-least}
-use Rattle.format.proofs.Sector.BlockEnd.{empty-least, offset-is, data-in-end}
+use Rattle.format.proofs.Sector.BlockEnd.{offset-is, data-in-end}
 use Rattle.format.proofs.Sector.ReadSector.{ReadAs, restOf, read-inv, read-length, Lengths}
 use Rattle.format.proofs.Sector.ReadsAs.{Reads, none-placed}
 use Rattle.format.proofs.Sector.Regapped.{blockPlace, read-first, end-placed}
@@ -109,9 +109,18 @@ module _ (head g rest : List ℕ) (h : Home) (i : ℕ) (x : Settled) (last : Boo
   block-here =
       rw (ap emptySize cells-here, lengths .data-length) (omega (arith, end-here))
 
+  -- What follows the opening of its count are its own bytes.
+  count-here : (j : ℕ) → j < 12 → getD r j 0 ≡ getD (countAt c (isFirst i) p) j 0
+  unfolding countFits
+  count-here j l =
+      let fits = leb-true 12 (length r) (read .count-fits) in
+      let inside : o ≤ length g = omega (arith, lengths .reaches) in
+      let there : drop (p + o) c ≡ r ++ rest = sym (drop-drop o p c) ∙ ap (drop o) (drop-at head (g ++ rest) p refl) ∙ drop-append-le o g rest inside in
+      sym (List·getD-append r rest 0 j (omega (arith, fits))) ∙ ap (λ (y : List ℕ). getD y j 0) (sym there)
+
   -- Its record is that of the count that opens there.
   record-here : startsWith (countOpening (isFirst i)) g ≡ true → RecordAt c (isFirst i) last p (listed here)
-  unfolding listed
+  unfolding listed sectorIn
   record-here e =
       let key : ℕ = length (s .keyBytes) in
       let k : total (keyPieces key) ≡ keySize key = key-total key in
@@ -120,6 +129,10 @@ module _ (head g rest : List ℕ) (h : Home) (i : ℕ) (x : Settled) (last : Boo
         count-opens =
             ap (startsWith (countOpening (isFirst i))) (drop-at head (g ++ rest) p refl)
             ∙ starts-with-append (countOpening (isFirst i)) g rest (starts-length (countOpening (isFirst i)) g e) ∙ e;
+        flag-is = ap (λ (z : Sector). z .flag) (read .sector-is) ∙ count-here 0 (omega arith);
+        number-is = ap (λ (z : Sector). z .number) (read .sector-is) ∙ count-here 5 (omega arith);
+        key-length-is = lengths .key-length ∙ count-here 6 (omega arith);
+        data-length-is = lengths .data-length ∙ ap₂ word (count-here 7 (omega arith)) (count-here 8 (omega arith));
         key-place = ap (pick (eqb key 0) 0) q;
         data-place = omega (arith, q, k);
         end-place = omega (arith, block-here, offset-here, k);
@@ -152,7 +165,7 @@ reads-follow head h i x (g ∷ gs) (s ∷ ss) v e =
     )
 
 -- The pieces behind a place fill the track from there on.
-follow-fill : (c : List ℕ) (first : Bool) (p : ℕ) (rs : List Listed) → Following c first p rs → p + total (recordPieces c first rs) ≡ length c
+pub follow-fill : (c : List ℕ) (first : Bool) (p : ℕ) (rs : List Listed) → Following c first p rs → p + total (recordPieces c first rs) ≡ length c
 unfolding recordPieces sectorPieces
 follow-fill c first p [] e = omega (arith, e)
 follow-fill c first p (r ∷ rs) (v, e) =
@@ -188,55 +201,3 @@ list-layout n t m a rs e f =
     let same : map listed (a .sectors) ≡ rs = good-inj (map listed (a .sectors)) rs (sym (list-records n t m a l e) ∙ f) in
     let k : Following (cells t m) true (firstCountPlace (a .home .place)) rs = subst (Following (cells t m) true (firstCountPlace (a .home .place))) same (records-follow (cells t m) a (g .1)) in
     (omega (arith, follow-fill (cells t m) true (firstCountPlace (a .home .place)) rs k, lent-length t m (g .0) .0), k)
-
--- The numbers of a record of a track of l bytes are no greater than l.
-pub record Within (l : ℕ) (r : Listed) : Type 0 where
-  pub key-length-most : r .keyLength ≤ l
-  pub data-length-most : r .dataLength ≤ l
-  pub key-place-most : r .keyPlace ≤ l
-  pub data-place-most : r .dataPlace ≤ l
-  pub end-most : r .end ≤ l
-  pub gap-most : r .gap ≤ l
-
--- Those of all of these records.
-abbrev pub AllWithin : ℕ → List Listed → Type 0
-AllWithin l [] = Unit {0}
-AllWithin l (r ∷ rs) = Within l r × AllWithin l rs
-
-block-least : (c : List ℕ) (r : Listed) → r .dataLength + 7 ≤ blockLength c r
-unfolding blockLength
-block-least c r =
-    cases (eqb (r .dataLength) 0)
-    (λ e. rw e (omega (arith, eqb-true (r .dataLength) 0 e, empty-least (blockCells c r))))
-    (λ e. rw e (omega arith))
-
-key-first : (n a b : ℕ) → a ≤ b → pick (eqb n 0) 0 a ≤ b
-key-first n a b l = cases (eqb n 0) (λ e. rw e (omega arith)) (λ e. rw e l)
-
-record-within : (c : List ℕ) (first last : Bool) (p : ℕ) (r : Listed) → RecordAt c first last p r → r .end + r .gap ≤ length c → Within (length c) r
-record-within c first last p r v l =
-    let k : r .keyLength ≤ total (keyPieces (r .keyLength)) = omega (arith, key-total (r .keyLength), key-size-least (r .keyLength)) in
-    let b = block-least c r in
-    record {
-      key-length-most = omega (arith, v .end-place);
-      data-length-most = omega (arith, v .end-place);
-      key-place-most = rw (v .key-place) (key-first (r .keyLength) (p + countLength first + 11 + 6) (length c) (omega (arith, v .end-place)));
-      data-place-most = omega (arith, v .data-place, v .end-place);
-      end-most = omega arith;
-      gap-most = omega arith;
-    }
-
-follow-within : (c : List ℕ) (first : Bool) (p : ℕ) (rs : List Listed) → Following c first p rs → AllWithin (length c) rs
-follow-within c first p [] e = tt
-follow-within c first p (r ∷ rs) (v, e) =
-    (record-within c first (none rs) p r v (omega (arith, follow-fill c false (r .end + r .gap) rs e)), follow-within c false (r .end + r .gap) rs e)
-
--- List's records are such.
-pub records-within : (n : ℕ) (t m : List ℕ) (rs : List Listed) → list n t m ≡ good rs → (length t ≤ 4002) × AllWithin (length t) rs
-unfolding list lengthRight
-records-within n t m rs e =
-    let f = then-good (accept t m) _ rs (require-good (leb mostSectors n) lentWrong _ rs e .1) in
-    let a : Accepted = f .0 in
-    let l = lent-length t m (accepted-pair t m a (f .1) .0) in
-    let w = follow-within (cells t m) true (firstCountPlace (a .home .place)) rs (list-layout n t m a rs (f .1) e .1) in
-    (leb-true (length t) 4002 (and-both (leb 3815 (length t)) (leb (length t) 4002) (l .1) .1), subst (λ (k : ℕ). AllWithin k rs) (l .0) w)
