@@ -61,14 +61,14 @@ short-rows n t m old l = rw (list-short n t m l) (refl, refl, refl)
 pub records-fit : (t m : List ℕ) → length (recordsOf (list mostSectors t m)) ≤ mostSectors
 records-fit t m = listing mostSectors t m .count-fits
 
+-- There are as many rows as records.
+pub length-rows : (t m : List ℕ) → length (rowsOf (list mostSectors t m)) ≡ length (recordsOf (list mostSectors t m))
+length-rows t m = length-map (recordsOf (list mostSectors t m)) rowOf
+
 -- The rows of i records are filled, which are all of them.
 pub full-rows : (n : ℕ) (t m : List ℕ) (old new : List (List ℕ)) (i : ℕ) → mostSectors ≤ n → i ≡ length (recordsOf (list mostSectors t m))
     → new ≡ filledTo (rowsOf (list mostSectors t m)) i old → new ≡ filledRows (list n t m) old
 unfolding filledRows
 full-rows n t m old new i l e f =
-    filled-whole (rowsOf (list mostSectors t m)) old new i (length-map (recordsOf (list mostSectors t m)) rowOf ∙ sym e) f
+    filled-whole (rowsOf (list mostSectors t m)) old new i (length-rows t m ∙ sym e) f
     ∙ ap (λ (j : Judged (List Listed)). rowsOf j ++ drop (length (rowsOf j)) old) (list-long n t m l)
-
--- There are as many rows as records.
-pub length-rows : (t m : List ℕ) → length (rowsOf (list mostSectors t m)) ≡ length (recordsOf (list mostSectors t m))
-length-rows t m = length-map (recordsOf (list mostSectors t m)) rowOf

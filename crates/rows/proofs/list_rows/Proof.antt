@@ -21,56 +21,44 @@ Inv-loop track marks rows₀ filled₀ records n i₀ rows i = (n ≤ 67) × (i 
 abbrev μ-loop : tie.MeasureT-loop
 μ-loop track marks rows₀ filled₀ records n i₀ rows i = n - i
 
--- src/lib.rt:30:13
 lent-wrong-requires : tie.Need-lent-wrong-requires Inv-loop μ-loop
 lent-wrong-requires c κs = search needs
 
--- src/lib.rt:31:9
 returns : tie.Need-returns Inv-loop μ-loop
 returns c =
     let a = c .before .before .before .before .args in
     let k = short-rows (length (a .rows .now)) (a .track .now) (a .marks .now) (a .rows .now) (omega arith) in
     (c .lent-wrong .ensures ∙ k .0, (k .1, k .2))
 
--- src/lib.rt:33:9
 list-all-requires : tie.Need-list-all-requires Inv-loop μ-loop
 list-all-requires c κs = search needs
 
--- src/lib.rt:37:5
 loop-holds : tie.Need-loop-holds Inv-loop μ-loop
 loop-holds c =
     let a = c .before .before .before .before .before .args in
     (omega (arith, records-fit (a .track .now) (a .marks .now), c .before .list-all .ensures .1 .0), omega arith, refl, refl)
 
--- src/lib.rt:38:26
 mul-row-of : tie.Need-mul-row-of Inv-loop μ-loop
 mul-row-of c = search needs
 
--- src/lib.rt:38:26
 array-copy-out-row-of : tie.Need-array-copy-out-row-of Inv-loop μ-loop
 array-copy-out-row-of c = search needs
 
--- src/lib.rt:38:19
 row-of-requires : tie.Need-row-of-requires Inv-loop μ-loop
 row-of-requires c κs = search needs
 
--- src/lib.rt:38:9
 mul-t17 : tie.Need-mul-t17 Inv-loop μ-loop
 mul-t17 c = search needs
 
--- src/lib.rt:38:9
 slice-set-from-rows : tie.Need-slice-set-from-rows Inv-loop μ-loop
 slice-set-from-rows c = search needs
 
--- src/lib.rt:39:13
 add-i : tie.Need-add-i Inv-loop μ-loop
 add-i c = search needs
 
--- src/lib.rt:37:5
 loop-less : tie.Need-loop-less Inv-loop μ-loop
 loop-less c = search needs
 
--- src/lib.rt:37:5
 loop-again : tie.Need-loop-again Inv-loop μ-loop
 loop-again c =
     let a = c .before .before .before .before .before .before .before .before .before .args in
@@ -87,11 +75,9 @@ loop-again c =
           (c .row-of .ensures ∙ row-at t m (g .result .records) _ _ (l .i) (g .ensures .1 .1) below),
     )
 
--- src/lib.rt:24:1
 same-length : tie.Need-same-length Inv-loop μ-loop
 same-length c = search needs
 
--- src/lib.rt:24:1
 returns-2 : tie.Need-returns-2 Inv-loop μ-loop
 returns-2 c =
     let a = c .before .before .before .before .before .before .before .before .args in
