@@ -2,7 +2,7 @@
 use mathlib.Core.Path.{_≡_, ap, _∙_}
 use Prim.Native.Nat.{ℕ, _-_}
 use borrow.Author.Needs.{needs}
-use Rattle.sectors.specs.SectorAt.{SectorAt}
+use Rattle.sectors.specs.SectorAt.{SectorAt, asSectorAt}
 use Rattle.listing.specs.declared.SectorNext.{SectorNext}
 use Rattle.listing.specs.Filling.{asSector}
 use Rattle.listing.proofs.record_at.Statement.{statement}
@@ -35,7 +35,7 @@ same-record : (g : ℕ) (v w : SectorAt) → g ≡ v .next - v .end → v ≡ w 
 same-record g v w e f = ap (λ (k : ℕ). recordWith k v) e ∙ ap {B = SectorNext} (λ (u : SectorAt). record { sector = asSector u; next = u .next }) f
 
 returns : tie.Need-returns
-returns c = same-record _ _ _ (c .bytes-between .ensures) (c .before .sector-at .ensures)
+returns c = same-record _ (asSectorAt (c .before .sector-at .result)) _ (c .bytes-between .ensures) (c .before .sector-at .ensures)
 
 pub record-at-spec : {M : Type 1} → statement M
 record-at-spec = tie.close (tie.spec sector-at-requires bytes-between-requires returns)
