@@ -12,7 +12,7 @@
 enum status {
     ACCEPTED = 0,
     REFUSED = 1,     /* Accept refuses the first track */
-    WRONG_CALL = 2,  /* no file, or one that cannot be read */
+    WRONG_CALL = 2,  /* no file, or one that cannot be read; or what was printed is not all there */
     WRONG_LAYOUT = 3 /* the pieces of an accepted track do not follow on, or do not add up to L */
 };
 
@@ -258,6 +258,15 @@ static void print_pair(const struct pair *first, const struct pair *second) {
     printf("walk: %u\n", iso3561_walk_number(step));
 }
 
+/* Whether all that was printed has left the program; says so if not. */
+static int all_printed(void) {
+    if (fflush(stdout) != 0 || ferror(stdout)) {
+        fprintf(stderr, "the output could not be written whole: do not use it\n");
+        return 0;
+    }
+    return 1;
+}
+
 int main(int count, char **words) {
     static struct room one, two;
     struct pair first, second;
@@ -275,5 +284,5 @@ int main(int count, char **words) {
         status = print_judged(&second) == WRONG_LAYOUT ? WRONG_LAYOUT : status;
         print_pair(&first, &second);
     }
-    return (int)status;
+    return (int)(all_printed() ? status : WRONG_CALL);
 }

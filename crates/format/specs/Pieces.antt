@@ -7,6 +7,7 @@ use lib.ListN.{length, take, drop}
 use lib.Dec.{eqb}
 use Rattle.base.specs.Pick.{pick}
 use Rattle.format.specs.Layout.{plainLength, gapLength, homeLength, countTail, blockFrame}
+use Rattle.format.specs.Lent.{unmarked}
 use Rattle.format.specs.Opening.{startsWith}
 use Rattle.format.specs.Count.{countFlag, countNumber, keyLength, dataLength}
 use Rattle.format.specs.Block.{emptySize, leastGap}
@@ -68,9 +69,10 @@ pub record RecordAt (c : List ℕ) (first last : Bool) (p : ℕ) (r : Listed) : 
   -- The places of the information, behind the pieces before it and the block's opening.
   pub key-place : r .keyPlace ≡ pick (eqb (r .keyLength) 0) 0 (p + countLength first + gapLength + plainLength)
   pub data-place : r .dataPlace ≡ p + countLength first + gapLength + total (keyPieces (r .keyLength)) + plainLength
-  -- The end of the data block, and the least gap behind it.
+  -- The end of the data block; the gap behind it is the least one or longer, and has no mark, so that no count opens in it.
   pub end-place : r .end ≡ p + countLength first + gapLength + total (keyPieces (r .keyLength)) + blockLength c r
   pub gap-least : leastGap last ≤ r .gap
+  pub gap-unmarked : unmarked (take (r .gap) (drop (r .end) c)) ≡ true
 
 -- The records rs are those of the sectors from place p on: end and gap of each lead to the opening of the next one's count, and those of the last to index.
 abbrev pub Following : List ℕ → Bool → ℕ → List Listed → Type 0

@@ -59,13 +59,14 @@ map-append-drop (suc n) [] (y ∷ ys) = map-append-drop n [] ys
 
 -- What List makes of the lent pair t, m for a list of n.
 pub record Listing (n : ℕ) (t m : List ℕ) : Type 0 where
-  -- The number of records fits the list.
+  -- The number of records fits the list, and is 67 at most.
   pub count-fits : length (recordsOf (list n t m)) ≤ n
+  pub count-most : length (recordsOf (list n t m)) ≤ mostSectors
   -- The records that are come to are its records.
   pub records-are : asRecords (run (value (cells t m)) (next (cells t m)) (firstFor n t m) (length (recordsOf (list n t m)))) ≡ recordsOf (list n t m)
 
 listing-refused : (n : ℕ) (t m : List ℕ) (b : Answer) → list n t m ≡ refused b → Listing n t m
-listing-refused n t m b e = record { count-fits = rw e (omega arith); records-are = rw e refl }
+listing-refused n t m b e = record { count-fits = rw e (omega arith); count-most = rw e (omega arith); records-are = rw e refl }
 
 listing-good : (n : ℕ) (t m : List ℕ) (a : Accepted) → mostSectors ≤ n → accept t m ≡ good a → Listing n t m
 unfolding firstFor firstCount
@@ -76,6 +77,7 @@ listing-good n t m a l e =
     let f : firstFor n t m ≡ p = rw (le-leb mostSectors n l, e) in
     record {
       count-fits = rw g (omega (arith, list-suffices t m a e));
+      count-most = rw g (omega (arith, list-suffices t m a e));
       records-are = rw g (
           ap₂ (λ (q j : ℕ). asRecords (run (value (cells t m)) (next (cells t m)) q j)) f k
           ∙ run-listed t m p (a .sectors) (accepted-steps t m a e));

@@ -13,7 +13,6 @@ use Rattle.format.proofs.Track.ListAccepted.{list-short, list-long}
 use Rattle.format.proofs.Track.RecordBounds.{Within, AllWithin, records-within}
 use Rattle.listing.specs.declared.Sector.{Sector}
 use Rattle.listing.specs.Filling.{asListed, asRecords, recordsOf, filled}
-use Rattle.listing.proofs.Listed.{listing}
 use Rattle.rows.specs.Rows.{rowOf, rowsOf, filledRows, lowBits}
 
 low : (n l : ℕ) → n ≤ l → l ≤ 4002 → n % 65536 ≡ n
@@ -56,10 +55,6 @@ pub short-rows : (n : ℕ) (t m : List ℕ) (old : List (List ℕ)) → n < most
     → (lentWrong ≡ answerOf (list n t m)) × (_≡_ {A = ℕ} 0 (length (recordsOf (list n t m)))) × (old ≡ filledRows (list n t m) old)
 unfolding filledRows
 short-rows n t m old l = rw (list-short n t m l) (refl, refl, refl)
-
--- There are at most 67 records.
-pub records-fit : (t m : List ℕ) → length (recordsOf (list mostSectors t m)) ≤ mostSectors
-records-fit t m = listing mostSectors t m .count-fits
 
 -- There are as many rows as records.
 pub length-rows : (t m : List ℕ) → length (rowsOf (list mostSectors t m)) ≡ length (recordsOf (list mostSectors t m))

@@ -4,13 +4,11 @@ use Prim.Native.Nat.{ℕ, _+_, _*_, _/_, _%_, _≤_}
 use native.Mathlib.Omega.{arith}
 use mathlib.Core.List.{List}
 use lib.ListN.{length}
-use lib.Dec.{leb}
-use borrow.Author.Tests.{leb-true, leb-false}
 use Rattle.format.specs.Answer.{Answer, done, wantedWrong}
 use Rattle.format.specs.Judged.{Judged, good, refused, answerOf}
 use Rattle.format.specs.Address.{Address}
 use Rattle.format.specs.Accept.{accept}
-use Rattle.format.specs.Listing.{Listed, mostSectors, list}
+use Rattle.format.specs.Listing.{list}
 use Rattle.format.specs.Blank.{blank}
 use Rattle.format.specs.Add.{add}
 use Rattle.format.specs.Correct.{correct}
@@ -21,10 +19,8 @@ use Rattle.format.specs.PairFind.{ofFirst, pairFind}
 use Rattle.station.specs.Packed.{packedAnswer, packedCount, packedListing, packedBounds, packedPart, packedPaired, packedVisited, packedVisit}
 use Rattle.format.specs.BlockFault.{SecondRight}
 use Rattle.format.proofs.Faults.SecondNumber.{OutcomeRight, second-most, accept-second, list-second, find-second, pair-second, blank-second, add-second, correct-second}
-use Rattle.base.proofs.Tests.{cases}
-use Rattle.format.proofs.Track.ListAccepted.{list-short, list-long}
 use Rattle.listing.specs.Filling.{recordsOf}
-use Rattle.rows.proofs.Rows.{records-fit}
+use Rattle.listing.proofs.Listed.{listing}
 use Rattle.station.proofs.Places.{Row, accept-within, list-within, blank-within, add-within, correct-within}
 use Rattle.station.proofs.Fields.{Inside, Fits, find-inside, pair-inside, step-fits}
 
@@ -69,13 +65,6 @@ accept-read t m = answer-read (answerOf (accept t m)) (accept-within t m) (accep
 abbrev pub countIn : ℕ → ℕ
 countIn r = startIn r
 
--- There are at most 67 records, whatever the length of the list.
-count-most : (n : ℕ) (t m : List ℕ) → length (recordsOf (list n t m)) ≤ 67
-count-most n t m =
-    cases (leb mostSectors n)
-    (λ e. subst (λ (j : Judged (List Listed)). length (recordsOf j) ≤ 67) (list-long n t m (leb-true mostSectors n e)) (records-fit t m))
-    (λ e. rw (list-short n t m (leb-false mostSectors n e)) (omega arith))
-
 count-read : (a : Answer) (n : ℕ) → Row a → SecondRight a → n ≤ 67 → TellsAnswer (packedCount a n) a × (countIn (packedCount a n) ≡ n)
 unfolding packedCount packedAnswer
 count-read a n l s k = let f = second-most a s in ((omega arith, omega arith, omega arith), omega arith)
@@ -83,7 +72,7 @@ count-read a n l s k = let f = second-most a s in ((omega arith, omega arith, om
 -- List's answer, and the number of sectors.
 pub list-read : (n : ℕ) (t m : List ℕ)
     → TellsAnswer (packedListing (list n t m)) (answerOf (list n t m)) × (countIn (packedListing (list n t m)) ≡ length (recordsOf (list n t m)))
-list-read n t m = count-read (answerOf (list n t m)) (length (recordsOf (list n t m))) (list-within n t m) (list-second n t m) (count-most n t m)
+list-read n t m = count-read (answerOf (list n t m)) (length (recordsOf (list n t m))) (list-within n t m) (list-second n t m) (listing n t m .count-most)
 
 -- The bits of Blank's result tell its answer.
 pub blank-read : (l k : ℕ) (own : Address) (flag : ℕ) (partner : Address) (s : ℕ) (key body : List ℕ) → let a = answerOf (blank l k own flag partner s key body) in TellsAnswer (packedAnswer a) a

@@ -485,3 +485,17 @@ count at 122: flag 128, S 1, KL 3, DL 80
     assert!(text.ends_with("\nwalk: 12\n"), "{text}");
     assert_eq!(status, Some(0));
 }
+
+/// Where the output cannot be written the reader says so, and its status is neither that of a sound track nor of a refused one.
+#[test]
+fn lost_output_is_told() {
+    let full = std::fs::OpenOptions::new().write(true).open("/dev/full");
+    let output = Command::new(example("reader"))
+        .arg(repository().join("samples/case5.bin"))
+        .stdout(full.expect("a file that is always full"))
+        .output()
+        .expect("the program ends");
+    let told = String::from_utf8_lossy(&output.stderr);
+    assert!(told.contains("could not be written"), "{told}");
+    assert_eq!(output.status.code(), Some(2));
+}

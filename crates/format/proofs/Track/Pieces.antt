@@ -11,23 +11,24 @@ use borrow.Author.Tests.{leb-true}
 use Rattle.base.specs.Pick.{pick}
 use Rattle.format.specs.Answer.{lentWrong}
 use Rattle.format.specs.Judged.{good}
-use Rattle.format.specs.Lent.{cells}
+use Rattle.format.specs.Lent.{cells, unmarked}
 use Rattle.format.specs.Opening.{startsWith, opens}
 use Rattle.format.specs.Home.{Home, firstCountPlace}
 use Rattle.format.specs.Address.{word}
 use Rattle.format.specs.Count.{Settled, unsettled, countFits}
 use Rattle.format.specs.Block.{keySize, dataOffset, emptySize, blockEnd}
-use Rattle.format.specs.Span.{joined, none}
+use Rattle.format.specs.Span.{joined, none, cleanSpan, cleanSpans}
 use Rattle.format.specs.Sector.{Sector, openingLength, isFirst, settle, sectorIn}
 use Rattle.format.specs.Accept.{Placed, placedFrom, endOf, Accepted, spansOf, acceptCells, accept}
 use Rattle.format.specs.Listing.{Listed, listed, mostSectors, list}
 use Rattle.format.specs.Pieces.{countAt, countLength, keyPieces, blockOpening, blockCells, blockLength, sectorPieces, recordPieces, trackPieces, total, RecordAt, Following}
 use Rattle.format.specs.Written.{countOpening}
-use Rattle.base.proofs.Tests.{cases}
+use Rattle.base.proofs.Tests.{cases, and-both}
 use Rattle.format.proofs.Base.Judged.{good-inj, require-good}
-use Rattle.format.proofs.Cells.Opening.{starts-length, starts-with-append}
+use Rattle.format.proofs.Cells.Opening.{starts-length, starts-with-append, unmarked-drop}
 use Rattle.format.proofs.Spans.Shape.{Shape}
 use Rattle.format.proofs.Spans.Cutting.{shape-tail}
+use Rattle.format.proofs.Spans.SpanAgrees.{clean-behind}
 use Rattle.format.proofs.Sector.BlockEnd.{offset-is, data-in-end}
 use Rattle.format.proofs.Sector.ReadSector.{ReadAs, restOf, read-inv, read-length, Lengths}
 use Rattle.format.proofs.Sector.ReadsAs.{Reads, none-placed}
@@ -58,7 +59,8 @@ opening-there zero g gs v o = o refl
 opening-there (suc i) g gs v o = v .0 .0
 
 -- The span g in position i, with the cells `head` before it and `rest` behind it, reads as the sector s.
-module _ (head g rest : List ℕ) (h : Home) (i : ℕ) (x : Settled) (last : Bool) (s : Sector) (read : ReadAs h i x last g s) (first-is : s .first ≡ isFirst i) where
+module _ (head g rest : List ℕ) (h : Home) (i : ℕ) (x : Settled) (last : Bool) (s : Sector) (read : ReadAs h i x last g s) (first-is : s .first ≡ isFirst i)
+    (clean : cleanSpan i g ≡ true) where
   abbrev p : ℕ
   p = length head
 
@@ -109,6 +111,16 @@ module _ (head g rest : List ℕ) (h : Home) (i : ℕ) (x : Settled) (last : Boo
   block-here =
       rw (ap emptySize cells-here, lengths .data-length) (omega (arith, end-here))
 
+  -- What stands in its gap is the end of its own span, which has no mark behind the opening.
+  gap-here : unmarked (take (listed here .gap) (drop (listed here .end) c)) ≡ true
+  unfolding listed
+  gap-here =
+      let k : ℕ = o + blockEnd r in
+      let q : listed here .end ≡ p + k = omega (arith, end-here) in
+      let n : listed here .gap ≡ length g - k = omega (arith, end-here) in
+      let l : k ≤ length g = omega (arith, lengths .reaches) in
+      rw (n, q, part-of head g rest k l, sym (drop-drop (blockEnd r) o g)) (unmarked-drop (blockEnd r) r (clean-behind i g clean))
+
   -- What follows the opening of its count are its own bytes.
   count-here : (j : ℕ) → j < 12 → getD r j 0 ≡ getD (countAt c (isFirst i) p) j 0
   unfolding countFits
@@ -137,6 +149,7 @@ module _ (head g rest : List ℕ) (h : Home) (i : ℕ) (x : Settled) (last : Boo
         data-place = omega (arith, q, k);
         end-place = omega (arith, block-here, offset-here, k);
         gap-least = omega (arith, end-here, lengths .reaches);
+        gap-unmarked = gap-here;
       }
 
 none-listed : (xs : List Placed) → none (map listed xs) ≡ none xs
@@ -144,24 +157,26 @@ none-listed [] = refl
 none-listed (x ∷ xs) = refl
 
 -- The records of spans that are read follow each other.
-reads-follow : (head : List ℕ) (h : Home) (i : ℕ) (x : Settled) (gs : List (List ℕ)) (ss : List Sector) → Shape i gs → Reads h i x (length head) gs ss
+reads-follow : (head : List ℕ) (h : Home) (i : ℕ) (x : Settled) (gs : List (List ℕ)) (ss : List Sector) → Shape i gs → cleanSpans i gs ≡ true
+    → Reads h i x (length head) gs ss
     → Following (head ++ joined gs) (isFirst i) (length head) (map listed (placedFrom (length head) gs ss))
-unfolding placedFrom countOpening
-reads-follow head h i x [] [] v e = let n : length head ≡ length (head ++ []) = omega (arith, length-append head []) in n
-reads-follow head h i x [] (s ∷ ss) v e = absurd e
-reads-follow head h i x (g ∷ gs) [] v e = absurd e
-reads-follow head h i x (g ∷ gs) (s ∷ ss) v e =
+unfolding placedFrom countOpening cleanSpans
+reads-follow head h i x [] [] v k e = let n : length head ≡ length (head ++ []) = omega (arith, length-append head []) in n
+reads-follow head h i x [] (s ∷ ss) v k e = absurd e
+reads-follow head h i x (g ∷ gs) [] v k e = absurd e
+reads-follow head h i x (g ∷ gs) (s ∷ ss) v k e =
+    let clean = and-both (cleanSpan i g) (cleanSpans (suc i) gs) k in
     let p : ℕ = length head in
     let rest : List ℕ = joined gs in
     let a = read-inv h i x p (none gs) g s (e .0) in
     let f : s .first ≡ isFirst i = read-first h i x p (none gs) g s (e .0) in
     let n : length (head ++ g) ≡ p + length g = length-append head g in
     let later : Following ((head ++ g) ++ rest) false (length (head ++ g)) (map listed (placedFrom (length (head ++ g)) gs ss)) =
-    reads-follow (head ++ g) h (suc i) (settle x s) gs ss (shape-tail i g gs v) (subst (λ (q : ℕ). Reads h (suc i) (settle x s) q gs ss) (sym n) (e .1)) in (
+    reads-follow (head ++ g) h (suc i) (settle x s) gs ss (shape-tail i g gs v) (clean .1) (subst (λ (q : ℕ). Reads h (suc i) (settle x s) q gs ss) (sym n) (e .1)) in (
       subst (λ (b : Bool). RecordAt (head ++ (g ++ rest)) (isFirst i) b p (listed (record { place = p; span = g; sector = s })))
           (sym (none-listed (placedFrom (p + length g) gs ss) ∙ none-placed h (suc i) (settle x s) (p + length g) gs ss (e .1)))
-          (record-here head g rest h i x (none gs) s a f (opening-there i g gs v (a .opened))),
-      rw (leads head g rest h i x (none gs) s a f) (rw (n, append-assoc head g rest) at later),
+          (record-here head g rest h i x (none gs) s a f (clean .0) (opening-there i g gs v (a .opened))),
+      rw (leads head g rest h i x (none gs) s a f (clean .0)) (rw (n, append-assoc head g rest) at later),
     )
 
 -- The pieces behind a place fill the track from there on.
@@ -188,7 +203,7 @@ records-follow c a e =
     let gs : List (List ℕ) = spansOf (a .home) c in
     let n : length head ≡ p = t .1 .head-length in
     let f : Following (head ++ joined gs) true (length head) (map listed (placedFrom (length head) gs (t .0))) =
-    reads-follow head (a .home) 0 unsettled gs (t .0) (t .1 .shape) (subst (λ (q : ℕ). Reads (a .home) 0 unsettled q gs (t .0)) (sym n) (t .1 .reads)) in
+    reads-follow head (a .home) 0 unsettled gs (t .0) (t .1 .shape) (t .1 .clean) (subst (λ (q : ℕ). Reads (a .home) 0 unsettled q gs (t .0)) (sym n) (t .1 .reads)) in
     subst (λ (y : Accepted). Following c true p (map listed (y .sectors))) (t .3) (rw (n, t .2) at f)
 
 -- Its pieces add up to L, each as long as the layout says and each gap as its record says; and end and gap of each record lead to the opening of the next one's count, those of the last to index.

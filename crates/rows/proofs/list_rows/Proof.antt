@@ -10,8 +10,9 @@ use Rattle.format.specs.Judged.{Judged, answerOf}
 use Rattle.format.specs.Listing.{Listed, mostSectors, list}
 use Rattle.format.proofs.Track.ListAccepted.{list-long}
 use Rattle.listing.specs.Filling.{recordsOf, asListed, empty}
+use Rattle.listing.proofs.Listed.{listing}
 use Rattle.rows.specs.Rows.{rowOf, rowsOf}
-use Rattle.rows.proofs.Rows.{row-at, short-rows, records-fit, full-rows, length-rows}
+use Rattle.rows.proofs.Rows.{row-at, short-rows, full-rows, length-rows}
 use Rattle.rows.proofs.list_rows.Statement.{statement}
 use Rattle.rows.proofs.list_rows.Tie as tie
 
@@ -36,7 +37,7 @@ list-all-requires c κs = search needs
 loop-holds : tie.Need-loop-holds Inv-loop μ-loop
 loop-holds c =
     let a = c .before .before .before .before .before .args in
-    (omega (arith, records-fit (a .track .now) (a .marks .now), c .before .list-all .ensures .1 .0), omega arith, refl, refl)
+    (omega (arith, listing mostSectors (a .track .now) (a .marks .now) .count-most, c .before .list-all .ensures .1 .0), omega arith, refl, refl)
 
 mul-row-of : tie.Need-mul-row-of Inv-loop μ-loop
 mul-row-of c = search needs
