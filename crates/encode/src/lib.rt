@@ -8,7 +8,8 @@ ghost use Rattle.format.specs.Lent.{bytesOf, marksOf};
 ghost use Rattle.format.specs.Opening.{closing};
 ghost use Rattle.format.specs.Sector.{openingLength};
 ghost use Rattle.format.specs.Block.{keySize};
-ghost use Rattle.format.specs.Written.{dataSize, gapOne, gapBy, innerGap, writtenBlock, writtenKey, writtenData, countOpening, writtenSector, sectorSize};
+ghost use Rattle.format.specs.GapRule.{gapOne, gapTwo, ruleTwo, gapBy, ruleRight};
+ghost use Rattle.format.specs.Written.{dataSize, innerGap, writtenBlock, writtenKey, writtenData, countOpening, writtenSector, sectorSize};
 ghost use Rattle.format.specs.Blank.{writtenHead};
 ghost use Rattle.encode.specs.Laid.{laidOver, laidAt, laidIf, laidAtIf};
 ghost use Rattle.encode.specs.Room.{addressOf, sectorFrom, bothFit, sectorFits, gapFits};
@@ -31,6 +32,7 @@ use format::layout::PLAIN_OPENING;
 // The rules by which the gap after a data block is written.
 pub enum GapRule {
     One,
+    Two { a: u16, b: u16 },
 }
 
 // The gap after a data block by rule one.
@@ -40,12 +42,46 @@ fn gap_one(kl: u8, dl: u16) -> usize
     21 + (kl as usize + dl as usize) / 20
 }
 
+// The gap after a data block by rule two; 21 where b = 0, which no call takes.
+fn gap_two(a: u16, b: u16, kl: u8, dl: u16) -> usize
+    ensures { λ r. ⌜ r ≡ gapTwo a b kl dl ⌝ }
+{
+    if b == 0 {
+        return 21;
+    }
+    21 + (kl as usize + dl as usize) * a as usize / b as usize
+}
+
 // The gap after a data block by a rule.
 pub fn gap_after(rule: GapRule, kl: u8, dl: u16) -> usize
     ensures { λ r. ⌜ r ≡ gapBy (asRule rule) kl dl ⌝ }
 {
     match rule {
         GapRule::One => gap_one(kl, dl),
+        GapRule::Two { a, b } => gap_two(a, b, kl, dl),
+    }
+}
+
+// Whether b is from 1 to 1,000 and a from 0 to b.
+fn ratio_right(a: u16, b: u16) -> bool
+    ensures { λ r. ⌜ r ≡ ruleRight (ruleTwo a b) ⌝ }
+{
+    if b < 1 {
+        return false;
+    }
+    if 1000 < b {
+        return false;
+    }
+    a <= b
+}
+
+// Whether a rule is one that is taken.
+pub fn rule_right(rule: GapRule) -> bool
+    ensures { λ r. ⌜ r ≡ ruleRight (asRule rule) ⌝ }
+{
+    match rule {
+        GapRule::One => true,
+        GapRule::Two { a, b } => ratio_right(a, b),
     }
 }
 

@@ -7,3 +7,4 @@ pub mod ShortenedSpan
 pub mod OneBehind
 pub mod WrittenHome
 pub mod BlankAccepted
+pub mod ByRule

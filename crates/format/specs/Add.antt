@@ -9,8 +9,9 @@ use Rattle.format.specs.Judged.{Judged, good, refused, then, require}
 use Rattle.format.specs.Lent.{cells, bothLent}
 use Rattle.format.specs.Flag.{condition}
 use Rattle.format.specs.Home.{Home}
-use Rattle.format.specs.Sector.{Sector, contentRight}
+use Rattle.format.specs.Sector.{Sector}
 use Rattle.format.specs.Accept.{Placed, acceptCells, endOf, fromNumber}
+use Rattle.format.specs.GapRule.{GapRule, gapBy, wantedRight}
 use Rattle.format.specs.Written.{gapAfter, writtenBehind, Pair, asPair}
 
 -- 13 where a sector carries S already, with its place.
@@ -43,13 +44,14 @@ module _ (gap : ℕ → ℕ → ℕ) where
       writtenBehind gap (take (endOf x) c ++ replicate (gapAfter gap (x .sector)) 0xFF) (length c) (addedSector h (suc i) x b7 s key body ∷ [])
   addedTo c h i b7 s key body (x ∷ y ∷ xs) = addedTo c h (suc i) b7 s key body (y ∷ xs)
 
+module _ (rule : GapRule) where
   -- The cells of a track: its own answer, 14, 13, 15.
   unfoldable pub addCells : List ℕ → ℕ → ℕ → List ℕ → List ℕ → Judged (List ℕ)
   addCells c b7 s key body =
       then (acceptCells c) (λ a.
-      require (leb b7 1 && contentRight key body) wantedWrong
+      require (leb b7 1 && wantedRight rule key body) wantedWrong
       (then (judgeAbsent (fromNumber s (a .sectors))) (λ _.
-      addedTo c (a .home) 0 b7 s key body (a .sectors))))
+      addedTo (gapBy rule) c (a .home) 0 b7 s key body (a .sectors))))
 
   -- 1 first; the written pair has the lengths l and k.
   unfoldable pub add : List ℕ → List ℕ → ℕ → ℕ → ℕ → ℕ → List ℕ → List ℕ → Judged Pair

@@ -12,7 +12,8 @@ use Rattle.format.specs.Lent.{lentForWriting}
 use Rattle.format.specs.Flag.{namesItself}
 use Rattle.format.specs.Address.{Address, addressBytes, addressInRange, addressRight}
 use Rattle.format.specs.Sector.{Sector, contentRight}
-use Rattle.format.specs.Written.{homeGap, writtenBlock, gapOne, writtenBehind, Pair, asPair}
+use Rattle.format.specs.GapRule.{gapOne}
+use Rattle.format.specs.Written.{homeGap, writtenBlock, writtenBehind, Pair, asPair}
 
 -- What the count names: the track itself for flags 00 and 11, where the partner is ignored.
 unfoldable pub namedBy : ℕ → Address → Address → Address

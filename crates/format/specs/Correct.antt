@@ -5,8 +5,9 @@ use lib.ListN.{length, take}
 use Rattle.format.specs.Answer.{lentWrong, sectorMissing, wantedWrong}
 use Rattle.format.specs.Judged.{Judged, refused, then, require}
 use Rattle.format.specs.Lent.{cells, bothLent}
-use Rattle.format.specs.Sector.{Sector, contentRight}
+use Rattle.format.specs.Sector.{Sector}
 use Rattle.format.specs.Accept.{Placed, acceptCells, fromNumber, sectorsOf}
+use Rattle.format.specs.GapRule.{GapRule, gapBy, wantedRight}
 use Rattle.format.specs.Written.{writtenBehind, Pair, asPair}
 
 -- The sector with a new key and data; flag, C, H and S are kept.
@@ -29,12 +30,13 @@ module _ (gap : ℕ → ℕ → ℕ) where
   rewrittenFrom c key body (x ∷ xs) =
       writtenBehind gap (take (x .place) c) (length c) (withContent key body (x .sector) ∷ sectorsOf xs)
 
+module _ (rule : GapRule) where
   -- The cells of a track: its own answer, 14, 12, 15.
   unfoldable pub correctCells : List ℕ → ℕ → List ℕ → List ℕ → Judged (List ℕ)
   correctCells c s key body =
       then (acceptCells c) (λ a.
-      require (contentRight key body) wantedWrong
-      (rewrittenFrom c key body (fromNumber s (a .sectors))))
+      require (wantedRight rule key body) wantedWrong
+      (rewrittenFrom (gapBy rule) c key body (fromNumber s (a .sectors))))
 
   -- 1 first; the written pair has the lengths l and k.
   unfoldable pub correct : List ℕ → List ℕ → ℕ → ℕ → ℕ → List ℕ → List ℕ → Judged Pair

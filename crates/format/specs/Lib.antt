@@ -19,6 +19,7 @@ pub mod Candidate
 pub mod Find
 pub mod Walk
 pub mod PairFind
+pub mod GapRule
 pub mod Written
 pub mod Blank
 pub mod Add

@@ -11,6 +11,7 @@ use Rattle.format.specs.Block.{leastGap}
 use Rattle.format.specs.Span.{joined}
 use Rattle.format.specs.Sector.{Sector}
 use Rattle.format.specs.Accept.{Placed, sectorsOf}
+use Rattle.format.specs.GapRule.{GapRule}
 use Rattle.format.specs.Written.{reach, writtenSpans, Pair}
 use Rattle.format.specs.Correct.{withContent, correctCells, correct}
 
@@ -40,15 +41,16 @@ leftPlace (x ∷ xs) = x .place
 unfoldable pub withBoth : Correction → Correction → List Sector → List Sector
 withBoth a b ss = map (replacedBy b) (map (replacedBy a) ss)
 
-module _ (gap : ℕ → ℕ → ℕ) where
+module _ (rule : GapRule) where
   -- Correct, of the cells of a track.
   abbrev pub corrected : List ℕ → Correction → Judged (List ℕ)
-  corrected c a = correctCells gap c (a .number) (a .key) (a .body)
+  corrected c a = correctCells rule c (a .number) (a .key) (a .body)
 
   -- Correct, of a pair, into a pair of the same L.
   abbrev pub correctedPair : List ℕ → List ℕ → Correction → Judged Pair
-  correctedPair t m a = correct gap t m (length t) (length t) (a .number) (a .key) (a .body)
+  correctedPair t m a = correct rule t m (length t) (length t) (a .number) (a .key) (a .body)
 
+module _ (gap : ℕ → ℕ → ℕ) where
   -- Both fit together: if the sectors xs, which start with the left one of the two, are laid out afresh with both contents, 13 cells or more
   -- are left behind the last block.
   unfoldable pub fitTogether : List ℕ → Correction → Correction → List Placed → Bool

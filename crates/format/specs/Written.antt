@@ -23,18 +23,6 @@ homeGap = replicate gapLength 0x00
 abbrev pub innerGap : List ℕ
 innerGap = replicate 9 0xFF ++ replicate 2 0x00
 
--- The gap after a data block by rule one: 21 + floor((KL + DL) / 20).
-unfoldable pub gapOne : ℕ → ℕ → ℕ
-gapOne kl dl = 21 + (kl + dl) / 20
-
--- The rules by which the gap after a data block is written.
-pub data GapRule : Type 0 where
-  ruleOne : GapRule
-
--- The gap after a data block by a rule.
-abbrev pub gapBy : GapRule → ℕ → ℕ → ℕ
-gapBy ruleOne = gapOne
-
 -- The nine information bytes of a count.
 unfoldable pub countInfo : Sector → List ℕ
 countInfo s =

@@ -1,12 +1,11 @@
 -- The chain: from a call that writes a sector to the drive's bit cells and back to Find, and from bit cells to the sectors and back.
 use mathlib.Core.Path.{refl, subst}
-use Prim.Native.Nat.{ℕ, _≤_}
+use Prim.Native.Nat.{ℕ}
 use mathlib.Core.List.{List}
-use Rattle.format.specs.Written.{Pair, gapOne}
+use Rattle.format.specs.Written.{Pair}
 use Rattle.format.specs.Find.{contentOf}
 use Rattle.format.specs.Blocks.{Wanted, theKey, theData}
 use Rattle.format.proofs.Find.FindAccepted.{find-content}
-use Rattle.format.proofs.Correct.PairOrders.{gapOne-least}
 use Rattle.bitcells.specs.ToCells.{writtenCells}
 use Rattle.bitcells.proofs.RoundTrip.{written-back}
 use Rattle.roundtrip.specs.Chain.{Found, ThroughCells, Chain}
@@ -36,14 +35,10 @@ module _ (q : Pair) (s : ℕ) (key body : List ℕ) (v : HasSector q s key body)
         data-found = subst (Found s theData t m) (v .holds .data-is) (found-written theData);
       }
 
--- The chain holds by every rule that leaves at least 21 bytes of gap after a block.
-pub chain : (gap : ℕ → ℕ → ℕ) → ((k d : ℕ) → 21 ≤ gap k d) → Chain gap
-chain gap least =
+-- The chain holds, whatever the rule of the gap.
+pub chain : Chain
+chain =
     record {
-      out-and-in = λ s key body q n uk ub w. through-cells q s key body (written-sector s key body q n uk ub gap least w);
+      out-and-in = λ s key body q n uk ub w. through-cells q s key body (written-sector s key body q n uk ub w);
       in-and-out = λ x l k q a b e acc. record { found = find-content (q .track) (q .marks) a acc; sent = written-back x l k b q e .4 };
     }
-
--- The chain by rule one.
-pub chain-rule-one : Chain gapOne
-chain-rule-one = chain gapOne gapOne-least

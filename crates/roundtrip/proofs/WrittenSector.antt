@@ -11,9 +11,10 @@ use Rattle.format.specs.Answer.{lentWrong, wantedWrong, sectorMissing}
 use Rattle.format.specs.Judged.{Judged, good}
 use Rattle.format.specs.Lent.{lentForReading, lentForWriting, cells, unmarked, bothLent}
 use Rattle.format.specs.Address.{Address}
-use Rattle.format.specs.Sector.{Sector, contentRight}
+use Rattle.format.specs.Sector.{Sector}
 use Rattle.format.specs.Accept.{Placed, Accepted, acceptCells, accept, fromNumber, sectorsOf}
-use Rattle.format.specs.Written.{Pair, asPair, gapOne, writtenBehind}
+use Rattle.format.specs.GapRule.{gapOne, GapRule, gapBy, wantedRight}
+use Rattle.format.specs.Written.{Pair, asPair, writtenBehind}
 use Rattle.format.specs.Blank.{namedBy, blankRight, writtenHead, blankSector, blank}
 use Rattle.format.specs.Add.{addCells, add}
 use Rattle.format.specs.Correct.{withContent, rewrittenFrom, correctCells, correct}
@@ -91,48 +92,48 @@ module _ (s : ℕ) (key body : List ℕ) (q : Pair) (n : s < 256) (uk : unmarked
       (written-bytes (writtenBehind gapOne (writtenHead flag own) l (z ∷ [])) q (f .1))
       (r .1) (r .3) (inl refl) (record { number-is = refl; key-is = refl; data-is = refl })
 
-  module _ (gap : ℕ → ℕ → ℕ) (least : (k d : ℕ) → 21 ≤ gap k d) (t m : List ℕ) (l k : ℕ) (ut : unmarked t ≡ true) where
+  module _ (rule : GapRule) (t m : List ℕ) (l k : ℕ) (ut : unmarked t ≡ true) where
     -- what Add leaves,
-    add-written : (b7 : ℕ) → add gap t m l k b7 s key body ≡ good q → HasSector q s key body
+    add-written : (b7 : ℕ) → add rule t m l k b7 s key body ≡ good q → HasSector q s key body
     unfolding add addCells newSector
     add-written b7 e =
-        let j : Judged (List ℕ) = addCells gap (cells t m) b7 s key body in
+        let j : Judged (List ℕ) = addCells rule (cells t m) b7 s key body in
         let w = require-good (bothLent t m l k) lentWrong (asPair j) q e in
         let c = written-pair j q (w .1) in
         let a = then-good (acceptCells (cells t m)) _ (c .0) (c .1) in
-        let r = add-pair gap t m l k b7 s key body least ut uk ub n (a .0) (accept-lent t m (a .0) (both-lent t m l k (w .0) .0) (a .1)) q e in
+        let r = add-pair rule t m l k b7 s key body ut uk ub n (a .0) (accept-lent t m (a .0) (both-lent t m l k (w .0) .0) (a .1)) q e in
         let z : Sector = newSector (a .0) b7 s key body in
         has-sector q s key body (r .0) (sectorsOf (a .0 .sectors) ++ z ∷ []) z
         (written-bytes j q (w .1)) (r .1) (r .3) (member-last z (sectorsOf (a .0 .sectors))) (record { number-is = refl; key-is = refl; data-is = refl })
 
     -- Correct is done only where some sector carries the number.
-    rewritten-some : (c : List ℕ) (xs : List Placed) (e : List ℕ) → rewrittenFrom gap c key body xs ≡ good e → (y : Placed) × (ys : List Placed) × (xs ≡ y ∷ ys)
+    rewritten-some : (c : List ℕ) (xs : List Placed) (e : List ℕ) → rewrittenFrom (gapBy rule) c key body xs ≡ good e → (y : Placed) × (ys : List Placed) × (xs ≡ y ∷ ys)
     unfolding rewrittenFrom
     rewritten-some c [] e h = refused-good sectorMissing e h
     rewritten-some c (y ∷ ys) e h = (y, ys, refl)
 
     -- and what Correct leaves, has the sector.
-    correct-written : correct gap t m l k s key body ≡ good q → HasSector q s key body
+    correct-written : correct rule t m l k s key body ≡ good q → HasSector q s key body
     unfolding correct correctCells
     correct-written e =
         let x : Correction = record { number = s; key = key; body = body } in
-        let j : Judged (List ℕ) = correctCells gap (cells t m) s key body in
+        let j : Judged (List ℕ) = correctCells rule (cells t m) s key body in
         let w = require-good (bothLent t m l k) lentWrong (asPair j) q e in
         let v = both-lent t m l k (w .0) in
         let c = written-pair j q (w .1) in
         let a = then-good (acceptCells (cells t m)) _ (c .0) (c .1) in
-        let d = require-good (contentRight key body) wantedWrong _ (c .0) (a .2) in
+        let d = require-good (wantedRight rule key body) wantedWrong _ (c .0) (a .2) in
         let y = rewritten-some (cells t m) (fromNumber s (a .0 .sectors)) (c .0) (d .1) in
         let h = member-number s (a .0 .sectors) (y .0) (y .1) (y .2) in
-        let here : correctedPair gap t m x ≡ good q = ap₂ (λ (i j : ℕ). correct gap t m i j s key body) (sym (v .1)) (sym (v .2)) ∙ e in
-        let r = correct-pair gap least t m ut (a .0) (accept-lent t m (a .0) (v .0) (a .1)) x (record { key = uk; body = ub }) q here in
+        let here : correctedPair rule t m x ≡ good q = ap₂ (λ (i j : ℕ). correct rule t m i j s key body) (sym (v .1)) (sym (v .2)) ∙ e in
+        let r = correct-pair rule t m ut (a .0) (accept-lent t m (a .0) (v .0) (a .1)) x (record { key = uk; body = ub }) q here in
         has-sector q s key body (r .0) (map (replacedBy x) (sectorsOf (a .0 .sectors))) (replacedBy x (y .0 .sector))
         (written-bytes j q (w .1)) (r .1) (r .3)
         (member-map (replacedBy x) (y .0 .sector) (sectorsOf (a .0 .sectors)) (member-map (λ z. z .sector) (y .0) (a .0 .sectors) (h .0)))
         (replaced-holds x (y .0 .sector) (h .1))
 
   -- Whatever call writes the sector, the pair that it leaves is accepted and has it.
-  pub written-sector : (gap : ℕ → ℕ → ℕ) → ((k d : ℕ) → 21 ≤ gap k d) → Wrote gap s key body q → HasSector q s key body
-  written-sector gap least (byBlank l k own flag partner e) = blank-written l k own flag partner e
-  written-sector gap least (byAdd t m l k b7 ut e) = add-written gap least t m l k ut b7 e
-  written-sector gap least (byCorrect t m l k ut e) = correct-written gap least t m l k ut e
+  pub written-sector : Wrote s key body q → HasSector q s key body
+  written-sector (byBlank l k own flag partner e) = blank-written l k own flag partner e
+  written-sector (byAdd rule t m l k b7 ut e) = add-written rule t m l k ut b7 e
+  written-sector (byCorrect rule t m l k ut e) = correct-written rule t m l k ut e

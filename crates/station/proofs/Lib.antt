@@ -4,3 +4,4 @@ pub mod Wrote
 pub mod Places
 pub mod Fields
 pub mod Unpacked
+pub mod Numbered

@@ -21,6 +21,7 @@ use Rattle.format.specs.Sector.{Sector, openingLength, settle, judgeCount, read
 use Rattle.format.specs.Accept.{Placed, Accepted, judgeMarks, readSpans, placedFrom, fromNumber, among, judgeNumbers, spansOf, firstCountEnd, judgeBehind, acceptCells, accept}
 use Rattle.format.specs.Listing.{mostSectors, list}
 use Rattle.format.specs.Blocks.{theKey, theData, Wanted, blocksAt, wantedPart, judgeFit, partIn}
+use Rattle.format.specs.GapRule.{GapRule, gapBy}
 use Rattle.format.specs.Written.{writtenBehind, asPair}
 use Rattle.format.specs.Blank.{blank}
 use Rattle.format.specs.Add.{judgeAbsent, addedTo, addCells, add}
@@ -206,18 +207,20 @@ module _ (gap : ℕ → ℕ → ℕ) where
   added-within (x ∷ []) c h i b7 s key body = search (within-require, leb-true)
   added-within (x ∷ y ∷ xs) c h i b7 s key body = added-within (y ∷ xs) c h (suc i) b7 s key body
 
-  -- Add gives a row of the table, and no place beyond 4,002.
-  pub add-within : (t m : List ℕ) (l k b7 s : ℕ) (key body : List ℕ) → Within (add gap t m l k b7 s key body)
-  unfolding add addCells asPair
-  add-within t m l k b7 s key body = search (within-then, within-require, both-few t m l k, cells-within, absent-within (cells t m) s, added-within, leb-true) depth 9
-
   -- The track with the corrected sector.
   rewritten-within : (xs : List Placed) (c key body : List ℕ) → Within (rewrittenFrom gap c key body xs)
   unfolding rewrittenFrom writtenBehind
   rewritten-within [] c key body = (omega arith, omega arith)
   rewritten-within (x ∷ xs) c key body = search (within-require, leb-true)
 
+-- Whatever the rule.
+module _ (rule : GapRule) where
+  -- Add gives a row of the table, and no place beyond 4,002.
+  pub add-within : (t m : List ℕ) (l k b7 s : ℕ) (key body : List ℕ) → Within (add rule t m l k b7 s key body)
+  unfolding add addCells asPair
+  add-within t m l k b7 s key body = search (within-then, within-require, both-few t m l k, cells-within, absent-within (cells t m) s, added-within (gapBy rule), leb-true) depth 9
+
   -- Correct gives a row of the table, and no place beyond 4,002.
-  pub correct-within : (t m : List ℕ) (l k s : ℕ) (key body : List ℕ) → Within (correct gap t m l k s key body)
+  pub correct-within : (t m : List ℕ) (l k s : ℕ) (key body : List ℕ) → Within (correct rule t m l k s key body)
   unfolding correct correctCells asPair
-  correct-within t m l k s key body = search (within-then, within-require, both-few t m l k, cells-within, rewritten-within, leb-true) depth 7
+  correct-within t m l k s key body = search (within-then, within-require, both-few t m l k, cells-within, rewritten-within (gapBy rule), leb-true) depth 7

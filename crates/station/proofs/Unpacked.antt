@@ -9,6 +9,7 @@ use Rattle.format.specs.Judged.{Judged, good, refused, answerOf}
 use Rattle.format.specs.Address.{Address}
 use Rattle.format.specs.Accept.{accept}
 use Rattle.format.specs.Listing.{list}
+use Rattle.format.specs.GapRule.{GapRule}
 use Rattle.format.specs.Blank.{blank}
 use Rattle.format.specs.Add.{add}
 use Rattle.format.specs.Correct.{correct}
@@ -80,15 +81,15 @@ blank-read l k own flag partner s key body =
     let n = blank-second l k own flag partner s key body in
     answer-read _ (blank-within l k own flag partner s key body) (rw (n .0) (n .1))
 
--- Whatever the gap after a block.
-module _ (gap : ℕ → ℕ → ℕ) where
+-- Whatever the rule of the gap.
+module _ (rule : GapRule) where
   -- The bits of Add's result tell its answer.
-  pub add-read : (t m : List ℕ) (l k b7 s : ℕ) (key body : List ℕ) → let a = answerOf (add gap t m l k b7 s key body) in TellsAnswer (packedAnswer a) a
-  add-read t m l k b7 s key body = answer-read _ (add-within gap t m l k b7 s key body) (add-second gap t m l k b7 s key body)
+  pub add-read : (t m : List ℕ) (l k b7 s : ℕ) (key body : List ℕ) → let a = answerOf (add rule t m l k b7 s key body) in TellsAnswer (packedAnswer a) a
+  add-read t m l k b7 s key body = answer-read _ (add-within rule t m l k b7 s key body) (add-second rule t m l k b7 s key body)
 
   -- The bits of Correct's result tell its answer.
-  pub correct-read : (t m : List ℕ) (l k s : ℕ) (key body : List ℕ) → let a = answerOf (correct gap t m l k s key body) in TellsAnswer (packedAnswer a) a
-  correct-read t m l k s key body = answer-read _ (correct-within gap t m l k s key body) (correct-second gap t m l k s key body)
+  pub correct-read : (t m : List ℕ) (l k s : ℕ) (key body : List ℕ) → let a = answerOf (correct rule t m l k s key body) in TellsAnswer (packedAnswer a) a
+  correct-read t m l k s key body = answer-read _ (correct-within rule t m l k s key body) (correct-second rule t m l k s key body)
 
 -- The bits of r tell the outcome j and nothing else.
 abbrev pub Tells : ℕ → Judged Part → Type 0

@@ -1,2 +1,3 @@
 -- What the calls from C give, as one number each.
 pub mod Packed
+pub mod Numbered

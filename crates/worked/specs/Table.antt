@@ -1,4 +1,4 @@
--- The worked numbers as one table: what the definitions compute beside what the scope document states; and tables of the second number, of the data block without information, and of sector records.
+-- The worked numbers as one table: what the definitions compute beside what the scope document states; and tables of the second number, of the data block without information, of sector records, of the rule of the gap, and of two corrections by two rules.
 use mathlib.Core.Path.{_≡_}
 use Prim.Native.Nat.{ℕ}
 use mathlib.Core.Bool.{Bool, true, false, _&&_}
@@ -10,10 +10,10 @@ use Rattle.format.specs.Judged.{good, then, answerOf}
 use Rattle.format.specs.Lent.{cells}
 use Rattle.format.specs.Opening.{closing}
 use Rattle.format.specs.Address.{addressBytes}
-use Rattle.format.specs.Written.{gapOne}
+use Rattle.format.specs.GapRule.{ruleOne, ruleTwo}
 use Rattle.format.specs.Add.{addCells}
 use Rattle.format.specs.Correct.{correctCells}
-use Rattle.worked.specs.Tracks.{address, blankOf, twoSectors, acceptOf, numbers, placesOf, answerByHand, answerOfZeros, threeByHand, answerSpoiled, closedGap, gapsByHand, placesByHand, answerWithoutZero, endIn, addedBehind, laidOutAfresh, listedIn, piecesOf, piecesWritten}
+use Rattle.worked.specs.Tracks.{address, blankOf, twoSectors, acceptOf, numbers, placesOf, answerByHand, answerOfZeros, threeByHand, answerSpoiled, closedGap, gapsByHand, placesByHand, answerWithoutZero, endIn, addedBehind, laidOutAfresh, listedIn, piecesOf, piecesWritten, pairPieces, piecesAdded, zeroThenOne, oneThenZero}
 
 -- A row of the table.
 pub record Case : Type 0 where
@@ -129,10 +129,34 @@ records =
     record { computed = listedIn 67 (blankOf 3906 8); stated = 0 ∷ 0 ∷ 0 ∷ 8 ∷ 0 ∷ 90 ∷ 101 ∷ 3805 ∷ [] }
     ∷ record { computed = listedIn 67 twoSectors; stated = 0 ∷ 0 ∷ 0 ∷ 8 ∷ 0 ∷ 90 ∷ 101 ∷ 21 ∷ 128 ∷ 1 ∷ 3 ∷ 80 ∷ 159 ∷ 182 ∷ 265 ∷ 3641 ∷ [] }
     ∷ record { computed = listedIn 66 twoSectors; stated = 1 ∷ 0 ∷ [] }
-    ∷ record { computed = piecesWritten (then twoSectors (λ p. good (cells (p .track) (p .marks)))); stated = 30 ∷ 14 ∷ 11 ∷ 18 ∷ 11 ∷ 17 ∷ 21 ∷ 20 ∷ 11 ∷ 12 ∷ 11 ∷ 89 ∷ 3641 ∷ [] }
+    ∷ record { computed = pairPieces twoSectors; stated = 30 ∷ 14 ∷ 11 ∷ 18 ∷ 11 ∷ 17 ∷ 21 ∷ 20 ∷ 11 ∷ 12 ∷ 11 ∷ 89 ∷ 3641 ∷ [] }
     ∷ record { computed = piecesOf threeByHand; stated = 30 ∷ 14 ∷ 11 ∷ 18 ∷ 11 ∷ 17 ∷ 21 ∷ 20 ∷ 11 ∷ 12 ∷ 11 ∷ 13 ∷ 21 ∷ 20 ∷ 11 ∷ 7 ∷ 13 ∷ [] }
     ∷ record { computed = piecesOf (gapsByHand 0 (closedGap 21) (replicate 13 0xFF)); stated = 30 ∷ 14 ∷ 11 ∷ 18 ∷ 11 ∷ 10 ∷ 21 ∷ 20 ∷ 11 ∷ 7 ∷ 13 ∷ [] }
     ∷ record { computed = piecesOf (gapsByHand 0 (replicate 21 0xFF) (closedGap 13)); stated = 30 ∷ 14 ∷ 11 ∷ 18 ∷ 11 ∷ 7 ∷ 21 ∷ 20 ∷ 11 ∷ 10 ∷ 13 ∷ [] }
-    ∷ record { computed = piecesWritten (addCells gapOne (gapsByHand 0 (replicate 40 0xFF) (replicate 80 0xFF)) 0 2 [] []); stated = 30 ∷ 14 ∷ 11 ∷ 18 ∷ 11 ∷ 7 ∷ 40 ∷ 20 ∷ 11 ∷ 7 ∷ 21 ∷ 20 ∷ 11 ∷ 7 ∷ 21 ∷ [] }
-    ∷ record { computed = piecesWritten (correctCells gapOne (gapsByHand 0 (replicate 40 0xFF) (replicate 13 0xFF)) 0 [] []); stated = 30 ∷ 14 ∷ 11 ∷ 18 ∷ 11 ∷ 7 ∷ 21 ∷ 20 ∷ 11 ∷ 7 ∷ 32 ∷ [] }
+    ∷ record { computed = piecesWritten (addCells ruleOne (gapsByHand 0 (replicate 40 0xFF) (replicate 80 0xFF)) 0 2 [] []); stated = 30 ∷ 14 ∷ 11 ∷ 18 ∷ 11 ∷ 7 ∷ 40 ∷ 20 ∷ 11 ∷ 7 ∷ 21 ∷ 20 ∷ 11 ∷ 7 ∷ 21 ∷ [] }
+    ∷ record { computed = piecesWritten (correctCells ruleOne (gapsByHand 0 (replicate 40 0xFF) (replicate 13 0xFF)) 0 [] []); stated = 30 ∷ 14 ∷ 11 ∷ 18 ∷ 11 ∷ 7 ∷ 21 ∷ 20 ∷ 11 ∷ 7 ∷ 32 ∷ [] }
+    ∷ []
+
+-- The rule of the gap. One more sector behind number 5's: by rule one, by rule two with 1 and 20, 0 and 1, 2 and 3, 1,000 and 1,000, and with a and b out of range.
+unfoldable pub rules : List Case
+rules =
+    record { computed = piecesAdded ruleOne; stated = 30 ∷ 14 ∷ 11 ∷ 18 ∷ 11 ∷ 17 ∷ 21 ∷ 20 ∷ 11 ∷ 12 ∷ 11 ∷ 89 ∷ 25 ∷ 20 ∷ 11 ∷ 7 ∷ 3578 ∷ [] }
+    ∷ record { computed = piecesAdded (ruleTwo 1 20); stated = 30 ∷ 14 ∷ 11 ∷ 18 ∷ 11 ∷ 17 ∷ 21 ∷ 20 ∷ 11 ∷ 12 ∷ 11 ∷ 89 ∷ 25 ∷ 20 ∷ 11 ∷ 7 ∷ 3578 ∷ [] }
+    ∷ record { computed = piecesAdded (ruleTwo 0 1); stated = 30 ∷ 14 ∷ 11 ∷ 18 ∷ 11 ∷ 17 ∷ 21 ∷ 20 ∷ 11 ∷ 12 ∷ 11 ∷ 89 ∷ 21 ∷ 20 ∷ 11 ∷ 7 ∷ 3582 ∷ [] }
+    ∷ record { computed = piecesAdded (ruleTwo 2 3); stated = 30 ∷ 14 ∷ 11 ∷ 18 ∷ 11 ∷ 17 ∷ 21 ∷ 20 ∷ 11 ∷ 12 ∷ 11 ∷ 89 ∷ 76 ∷ 20 ∷ 11 ∷ 7 ∷ 3527 ∷ [] }
+    ∷ record { computed = piecesAdded (ruleTwo 1000 1000); stated = 30 ∷ 14 ∷ 11 ∷ 18 ∷ 11 ∷ 17 ∷ 21 ∷ 20 ∷ 11 ∷ 12 ∷ 11 ∷ 89 ∷ 104 ∷ 20 ∷ 11 ∷ 7 ∷ 3499 ∷ [] }
+    ∷ record { computed = piecesAdded (ruleTwo 0 0); stated = 14 ∷ 0 ∷ [] }
+    ∷ record { computed = piecesAdded (ruleTwo 1 1001); stated = 14 ∷ 0 ∷ [] }
+    ∷ record { computed = piecesAdded (ruleTwo 4 3); stated = 14 ∷ 0 ∷ [] }
+    ∷ []
+
+-- Two corrections by two rules: sector 0 by rule one and then sector 1 by rule two with 1 and 1, and in the other order, give two tracks. By one rule, either of the two, both orders give one.
+unfoldable pub twoRules : List Case
+twoRules =
+    record { computed = zeroThenOne ruleOne (ruleTwo 1 1); stated = 30 ∷ 14 ∷ 11 ∷ 18 ∷ 11 ∷ 17 ∷ 21 ∷ 20 ∷ 11 ∷ 12 ∷ 11 ∷ 89 ∷ 104 ∷ 20 ∷ 11 ∷ 7 ∷ 3499 ∷ [] }
+    ∷ record { computed = oneThenZero ruleOne (ruleTwo 1 1); stated = 30 ∷ 14 ∷ 11 ∷ 18 ∷ 11 ∷ 17 ∷ 21 ∷ 20 ∷ 11 ∷ 12 ∷ 11 ∷ 89 ∷ 25 ∷ 20 ∷ 11 ∷ 7 ∷ 3578 ∷ [] }
+    ∷ record { computed = zeroThenOne (ruleTwo 1 1) (ruleTwo 1 1); stated = 30 ∷ 14 ∷ 11 ∷ 18 ∷ 11 ∷ 17 ∷ 29 ∷ 20 ∷ 11 ∷ 12 ∷ 11 ∷ 89 ∷ 104 ∷ 20 ∷ 11 ∷ 7 ∷ 3491 ∷ [] }
+    ∷ record { computed = oneThenZero (ruleTwo 1 1) (ruleTwo 1 1); stated = 30 ∷ 14 ∷ 11 ∷ 18 ∷ 11 ∷ 17 ∷ 29 ∷ 20 ∷ 11 ∷ 12 ∷ 11 ∷ 89 ∷ 104 ∷ 20 ∷ 11 ∷ 7 ∷ 3491 ∷ [] }
+    ∷ record { computed = zeroThenOne ruleOne ruleOne; stated = 30 ∷ 14 ∷ 11 ∷ 18 ∷ 11 ∷ 17 ∷ 21 ∷ 20 ∷ 11 ∷ 12 ∷ 11 ∷ 89 ∷ 25 ∷ 20 ∷ 11 ∷ 7 ∷ 3578 ∷ [] }
+    ∷ record { computed = oneThenZero ruleOne ruleOne; stated = 30 ∷ 14 ∷ 11 ∷ 18 ∷ 11 ∷ 17 ∷ 21 ∷ 20 ∷ 11 ∷ 12 ∷ 11 ∷ 89 ∷ 25 ∷ 20 ∷ 11 ∷ 7 ∷ 3578 ∷ [] }
     ∷ []

@@ -4,6 +4,7 @@ use mathlib.Core.Bool.{Bool, true, false}
 use mathlib.Core.List.{List, [], _∷_, _++_, map}
 use lib.ListN.{length, take, drop, replicate}
 use Rattle.format.specs.Answer.{Answer}
+use Rattle.format.specs.Lent.{cells}
 use Rattle.format.specs.Judged.{Judged, good, refused, then, answerOf}
 use Rattle.format.specs.Address.{Address, addressBytes}
 use Rattle.format.specs.Block.{keyOffset, dataOffset, emptyClosing, blockEnd}
@@ -11,10 +12,12 @@ use Rattle.format.specs.Sector.{Sector, openingLength}
 use Rattle.format.specs.Accept.{Placed, Accepted, acceptCells, accept, endOf}
 use Rattle.format.specs.Listing.{Listed, listed, list}
 use Rattle.format.specs.Pieces.{trackPieces}
-use Rattle.format.specs.Written.{Pair, gapOne, homeGap, writtenBlock, writtenSector}
+use Rattle.format.specs.GapRule.{gapOne, GapRule, ruleOne}
+use Rattle.format.specs.Written.{Pair, homeGap, writtenBlock, writtenSector}
 use Rattle.format.specs.Blank.{blank}
 use Rattle.format.specs.Add.{addCells, add}
 use Rattle.format.specs.Correct.{correctCells}
+use Rattle.format.specs.Together.{Correction, correctedPair}
 
 -- Cylinder c and head h.
 unfoldable pub address : ℕ → ℕ → Address
@@ -26,7 +29,7 @@ blankOf l n = blank l l (address 100 7) 0 (address 0 0) 0 [] (replicate n 0x00)
 
 -- That track with 8 bytes in sector 0, and sector 1 added with KL 3 and DL 80.
 unfoldable pub twoSectors : Judged Pair
-twoSectors = then (blankOf 3906 8) (λ p. add gapOne (p .track) (p .marks) 3906 3906 0 1 (replicate 3 0x41) (replicate 80 0x42))
+twoSectors = then (blankOf 3906 8) (λ p. add ruleOne (p .track) (p .marks) 3906 3906 0 1 (replicate 3 0x41) (replicate 80 0x42))
 
 -- Accept of what was written.
 unfoldable pub acceptOf : Judged Pair → Judged Accepted
@@ -132,11 +135,11 @@ cellsOf p q (refused a) = numbers a
 
 -- The cells from 143 to 178 after a sector was added to the track without data and with the gap z at index: the block of sector 1, its gap, and what follows.
 unfoldable pub addedBehind : List ℕ → List ℕ
-addedBehind z = cellsOf 143 178 (addCells gapOne (gapsByHand 0 (replicate 21 0xFF) z) 0 2 [] [])
+addedBehind z = cellsOf 143 178 (addCells ruleOne (gapsByHand 0 (replicate 21 0xFF) z) 0 2 [] [])
 
 -- The cells from 84 to 116 after sector 0 of the track without data and with the gap y got no data anew: its block, its gap, and what follows.
 unfoldable pub laidOutAfresh : List ℕ → List ℕ
-laidOutAfresh y = cellsOf 84 116 (correctCells gapOne (gapsByHand 0 y (replicate 13 0xFF)) 0 [] [])
+laidOutAfresh y = cellsOf 84 116 (correctCells ruleOne (gapsByHand 0 y (replicate 13 0xFF)) 0 [] [])
 
 -- The numbers of sector records: flag, S, KL, DL, the key's place, the data's place, end and gap of each.
 unfoldable pub recordNumbers : List Listed → List ℕ
@@ -163,3 +166,35 @@ piecesOf c = piecesOr (acceptCells c)
 unfoldable pub piecesWritten : Judged (List ℕ) → List ℕ
 piecesWritten (good c) = piecesOf c
 piecesWritten (refused a) = numbers a
+
+-- Number 5's track with sector 2 added behind it, without a key and without data.
+unfoldable pub threeSectors : Judged Pair
+threeSectors = then twoSectors (λ p. add ruleOne (p .track) (p .marks) 3906 3906 0 2 [] [])
+
+-- A correction of that track's sector 0: other data of 8 bytes.
+unfoldable pub newZero : Correction
+newZero = record { number = 0; key = []; body = replicate 8 0x43 }
+
+-- A correction of its sector 1: the same key, and other data of 80 bytes.
+unfoldable pub newOne : Correction
+newOne = record { number = 1; key = replicate 3 0x41; body = replicate 80 0x44 }
+
+-- The correction x of what was written, by a rule.
+unfoldable pub correctedBy : GapRule → Correction → Judged Pair → Judged Pair
+correctedBy rule x j = then j (λ p. correctedPair rule (p .track) (p .marks) x)
+
+-- The lengths of the pieces of what was written, or its answer.
+unfoldable pub pairPieces : Judged Pair → List ℕ
+pairPieces j = piecesWritten (then j (λ p. good (cells (p .track) (p .marks))))
+
+-- Those of number 5's track after one more sector without key and data was added by a rule.
+unfoldable pub piecesAdded : GapRule → List ℕ
+piecesAdded rule = pairPieces (then twoSectors (λ p. add rule (p .track) (p .marks) 3906 3906 0 2 [] []))
+
+-- Those of the track with three sectors after both corrections: that of sector 0 by the rule r first, and then that of sector 1 by the rule s;
+unfoldable pub zeroThenOne : GapRule → GapRule → List ℕ
+zeroThenOne r s = pairPieces (correctedBy s newOne (correctedBy r newZero threeSectors))
+
+-- and in the other order.
+unfoldable pub oneThenZero : GapRule → GapRule → List ℕ
+oneThenZero r s = pairPieces (correctedBy r newZero (correctedBy s newOne threeSectors))

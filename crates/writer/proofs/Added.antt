@@ -11,9 +11,10 @@ use Rattle.format.specs.Judged.{good, refused}
 use Rattle.format.specs.Lent.{cells, bytesOf, marksOf}
 use Rattle.format.specs.Home.{Home}
 use Rattle.format.specs.Span.{joined}
-use Rattle.format.specs.Sector.{Sector, contentRight}
+use Rattle.format.specs.Sector.{Sector}
 use Rattle.format.specs.Accept.{Placed, acceptCells, endOf, fromNumber, lastOf}
-use Rattle.format.specs.Written.{GapRule, gapBy, gapAfter, writtenSector, asPair, sectorSize}
+use Rattle.format.specs.GapRule.{GapRule, gapBy, wantedRight}
+use Rattle.format.specs.Written.{gapAfter, writtenSector, asPair, sectorSize}
 use Rattle.format.specs.Add.{judgeAbsent, addedFlag, addedSector, addedTo, addCells}
 use Rattle.format.proofs.Track.Pairs.{pairOf, accepted-pair, length-bytes, length-marks}
 use Rattle.format.proofs.Track.Sectors.{list-suffices}
@@ -68,20 +69,20 @@ module _ (rule : GapRule) (t m : List ℕ) (start : ℕ) (r : Readable t m start
   judged = accepted-pair t m (r .accepted) (r .is-accepted) .1
 
   -- 14 where B7 is no bit,
-  pub add-overflow : 1 < b7 → asPair (addCells (gapBy rule) c b7 s key body) ≡ refused wantedWrong
+  pub add-overflow : 1 < b7 → asPair (addCells rule c b7 s key body) ≡ refused wantedWrong
   unfolding addCells asPair
   add-overflow h = rw (judged, lt-leb b7 1 h)
 
   module _ (bit : b7 ≤ 1) where
-    -- or the content is out of rule.
-    pub add-wanted : contentRight key body ≡ false → asPair (addCells (gapBy rule) c b7 s key body) ≡ refused wantedWrong
+    -- or the rule, the key or the data is out of range.
+    pub add-wanted : wantedRight rule key body ≡ false → asPair (addCells rule c b7 s key body) ≡ refused wantedWrong
     unfolding addCells asPair
     add-wanted e = rw (judged, le-leb b7 1 bit, e)
 
-    module _ (right : contentRight key body ≡ true) where
+    module _ (right : wantedRight rule key body ≡ true) where
       -- 13 where a sector carries S.
       pub add-repeated : (x : Placed) (xs : List Placed) (q : ℕ) → fromNumber s (r .accepted .sectors) ≡ x ∷ xs → x .place ≡ q
-          → asPair (addCells (gapBy rule) c b7 s key body) ≡ refused (sectorRepeated q)
+          → asPair (addCells rule c b7 s key body) ≡ refused (sectorRepeated q)
       unfolding addCells judgeAbsent asPair
       add-repeated x xs q e at = rw (judged, le-leb b7 1 bit, right, e, at)
 
@@ -92,7 +93,7 @@ module _ (rule : GapRule) (t m : List ℕ) (start : ℕ) (r : Readable t m start
         abbrev pub new : Sector
         new = addedSector (r .accepted .home) (suc (0 + length xs)) (lastOf x xs) b7 s key body
 
-        add-is : addCells (gapBy rule) c b7 s key body ≡ addedTo (gapBy rule) c (r .accepted .home) 0 b7 s key body (x ∷ xs)
+        add-is : addCells rule c b7 s key body ≡ addedTo (gapBy rule) c (r .accepted .home) 0 b7 s key body (x ∷ xs)
         unfolding addCells judgeAbsent
         add-is = rw (judged, le-leb b7 1 bit, right, absent, all)
 
@@ -101,7 +102,7 @@ module _ (rule : GapRule) (t m : List ℕ) (start : ℕ) (r : Readable t m start
         need-is = omega (arith, end-is, to-is)
 
         -- 15 where its block would end later than 13 bytes before index.
-        pub add-short : length c < to + sectorSize false (length key) (length body) + 13 → asPair (addCells (gapBy rule) c b7 s key body) ≡ refused roomMissing
+        pub add-short : length c < to + sectorSize false (length key) (length body) + 13 → asPair (addCells rule c b7 s key body) ≡ refused roomMissing
         unfolding asPair
         add-short h =
             ap asPair (add-is ∙ added-room (gapBy rule) c (r .accepted .home) 0 b7 s key body x xs (omega (arith, end-is)))
@@ -122,7 +123,7 @@ module _ (rule : GapRule) (t m : List ℕ) (start : ℕ) (r : Readable t m start
 
         -- Else the new track.
         pub add-done : to + sectorSize false (length key) (length body) + 13 ≤ length c
-            → asPair (addCells (gapBy rule) c b7 s key body) ≡ good (pairOf (take end c ++ (replicate (to - end) 0xFF ++ filledSpan (length c - to) new)))
+            → asPair (addCells rule c b7 s key body) ≡ good (pairOf (take end c ++ (replicate (to - end) 0xFF ++ filledSpan (length c - to) new)))
         unfolding asPair
         add-done h =
             ap asPair (add-is ∙ added-room (gapBy rule) c (r .accepted .home) 0 b7 s key body x xs (omega (arith, end-is)))

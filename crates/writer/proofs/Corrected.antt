@@ -13,9 +13,10 @@ use Rattle.format.specs.Judged.{good, refused}
 use Rattle.format.specs.Lent.{cells, bytesOf, marksOf, unmarked}
 use Rattle.format.specs.Block.{leastGap}
 use Rattle.format.specs.Span.{none}
-use Rattle.format.specs.Sector.{Sector, contentRight}
+use Rattle.format.specs.Sector.{Sector}
 use Rattle.format.specs.Accept.{Placed, acceptCells, fromNumber, sectorsOf}
-use Rattle.format.specs.Written.{GapRule, gapBy, gapAfter, writtenSector, reach, writtenBehind, asPair, sectorSize}
+use Rattle.format.specs.GapRule.{GapRule, gapBy, wantedRight}
+use Rattle.format.specs.Written.{gapAfter, writtenSector, reach, writtenBehind, asPair, sectorSize}
 use Rattle.format.specs.Correct.{withContent, rewrittenFrom, correctCells}
 use Rattle.base.proofs.Lists.{take-map}
 use Rattle.format.proofs.Track.Pairs.{pairOf, accepted-pair, bytes-cells, marks-cells}
@@ -224,13 +225,13 @@ module _ (rule : GapRule) (t m : List ℕ) (start : ℕ) (r : Readable t m start
   judged = accepted-pair t m (r .accepted) (r .is-accepted) .1
 
   -- 14 where a wanted field is out of rule.
-  pub correct-wanted : contentRight key body ≡ false → asPair (correctCells (gapBy rule) c s key body) ≡ refused wantedWrong
+  pub correct-wanted : wantedRight rule key body ≡ false → asPair (correctCells rule c s key body) ≡ refused wantedWrong
   unfolding correctCells asPair
   correct-wanted e = rw (judged, e)
 
-  module _ (right : contentRight key body ≡ true) where
+  module _ (right : wantedRight rule key body ≡ true) where
     -- 12 where no sector carries S.
-    pub correct-missing : fromNumber s (r .accepted .sectors) ≡ [] → asPair (correctCells (gapBy rule) c s key body) ≡ refused sectorMissing
+    pub correct-missing : fromNumber s (r .accepted .sectors) ≡ [] → asPair (correctCells rule c s key body) ≡ refused sectorMissing
     unfolding correctCells rewrittenFrom asPair
     correct-missing e = rw (judged, right, e)
 
@@ -240,13 +241,13 @@ module _ (rule : GapRule) (t m : List ℕ) (start : ℕ) (r : Readable t m start
       need = ap (λ (n : ℕ). n + reach (gapBy rule) (withContent key body (x .sector) ∷ sectorsOf xs) + 13) (length-take-le (x .place) c (omega arith) ∙ at)
 
       -- 15 where the last block would end later than 13 bytes before index.
-      pub correct-short : length c < correctedEnd rule q key body x xs + 13 → asPair (correctCells (gapBy rule) c s key body) ≡ refused roomMissing
+      pub correct-short : length c < correctedEnd rule q key body x xs + 13 → asPair (correctCells rule c s key body) ≡ refused roomMissing
       unfolding correctCells rewrittenFrom writtenBehind leastGap asPair
       correct-short h = rw (judged, right, e, need, lt-leb (correctedEnd rule q key body x xs + 13) (length c) h)
 
       -- Else the new track.
       pub correct-done : correctedEnd rule q key body x xs + 13 ≤ length c
-          → asPair (correctCells (gapBy rule) c s key body) ≡ good (pairOf (take q c ++ correctedCells rule (length c) q key body x xs))
+          → asPair (correctCells rule c s key body) ≡ good (pairOf (take q c ++ correctedCells rule (length c) q key body x xs))
       unfolding correctCells rewrittenFrom writtenBehind leastGap asPair correctedCells
       correct-done h =
           let z : length (take q c) ≡ q = length-take-le q c within in

@@ -2,14 +2,15 @@
 use mathlib.Core.Path.{_≡_, refl, sym, ap, ap₂, _∙_}
 use Prim.Native.Nat.{ℕ, _+_, _*_, _≤_, _<_}
 use native.Mathlib.Omega.{arith}
-use mathlib.Core.Bool.{Bool, false}
+use mathlib.Core.Bool.{Bool, true, false}
 use mathlib.Core.List.{List, [], _∷_}
 use lib.ListN.{length}
 use Rattle.format.specs.Lent.{cells}
 use Rattle.format.specs.Block.{keySize}
 use Rattle.format.specs.Sector.{Sector, openingLength}
 use Rattle.format.specs.Accept.{Placed, sectorsOf}
-use Rattle.format.specs.Written.{GapRule, gapBy, dataSize, gapAfter, writtenSector, reach, sectorSize}
+use Rattle.format.specs.GapRule.{GapRule, gapBy, ruleRight}
+use Rattle.format.specs.Written.{dataSize, gapAfter, writtenSector, reach, sectorSize}
 use Rattle.format.proofs.Sector.Sizes.{key-size-least, data-size-least}
 use Rattle.format.proofs.Written.Gap.{rule-most}
 use Rattle.format.proofs.Sector.ReadBack.{length-written}
@@ -40,9 +41,9 @@ unfolding farthest
 farthest-none rule end gap xs e = ap (farthest rule end gap) e ∙ omega arith
 
 -- A gap is at most what its sector takes.
-gap-below : (rule : GapRule) (b : Bool) (kl dl : ℕ) → gapBy rule kl dl ≤ sectorSize b kl dl
+gap-below : (rule : GapRule) → ruleRight rule ≡ true → (b : Bool) (kl dl : ℕ) → gapBy rule kl dl ≤ sectorSize b kl dl
 unfolding sectorSize
-gap-below rule b kl dl = omega (arith, rule-most rule kl dl, opening-least b, key-size-least kl, data-size-least dl)
+gap-below rule right b kl dl = omega (arith, rule-most rule right kl dl, opening-least b, key-size-least kl, data-size-least dl)
 
 -- What a sector that is stepped over takes, and its gap; `first` says that it is sector 0.
 module _ (rule : GapRule) (t m : List ℕ) (p : ℕ) (first : Bool) (place : opensFirst p ≡ first) (xs : List Placed) (s : SectorCode) (v : Step t m p xs s) where
@@ -65,8 +66,8 @@ module _ (rule : GapRule) (t m : List ℕ) (p : ℕ) (first : Bool) (place : ope
       omega (arith, ap openingLength place, ap keySize (v .key-length-is), ap dataSize (v .data-length-is), v .end-is, v .stepping .end-size)
 
   -- It takes no more than it took, and its gap at most as much.
-  pub grows-stepped : sectorSize first (s .«key_length») (s .«data_length») + gapBy rule (s .«key_length») (s .«data_length») + 2 * p ≤ 2 * s .next
-  grows-stepped = omega (arith, end-stepped, v .end-inside, gap-below rule first (s .«key_length») (s .«data_length»))
+  pub grows-stepped : ruleRight rule ≡ true → sectorSize first (s .«key_length») (s .«data_length») + gapBy rule (s .«key_length») (s .«data_length») + 2 * p ≤ 2 * s .next
+  grows-stepped right = omega (arith, end-stepped, v .end-inside, gap-below rule right first (s .«key_length») (s .«data_length»))
 
 -- The sectors from place p on, with which the end is the goal.
 pub record Ahead (rule : GapRule) (t m : List ℕ) (p end gap goal : ℕ) : Type 0 where
@@ -78,10 +79,11 @@ pub record Ahead (rule : GapRule) (t m : List ℕ) (p end gap goal : ℕ) : Type
 abbrev pub Summing : GapRule → List ℕ → List ℕ → ℕ → ℕ → ℕ → ℕ → ℕ → ℕ → Type 0
 Summing rule t m p₀ end₀ gap₀ p end gap =
     (lastFirstCount < p) × (end + gap ≤ 200000 + 2 * p) × ((all : List Placed) → SectorsFrom t m p₀ all → Ahead rule t m p end gap (farthest rule end₀ gap₀ all))
+    × (ruleRight rule ≡ true)
 
 -- It starts so.
-pub sum-start : (rule : GapRule) (t m : List ℕ) (p end gap : ℕ) → (lastFirstCount < p) × (end + gap ≤ 200000) → Summing rule t m p end gap p end gap
-sum-start rule t m p end gap h = (h .0, omega (arith, h .1), λ all f. record { remaining = all; steps = f; same = refl })
+pub sum-start : (rule : GapRule) (t m : List ℕ) (p end gap : ℕ) → (lastFirstCount < p) × (end + gap ≤ 200000) × (ruleRight rule ≡ true) → Summing rule t m p end gap p end gap
+sum-start rule t m p end gap h = (h .0, omega (arith, h .1), λ all f. record { remaining = all; steps = f; same = refl }, h .2)
 
 module _ (rule : GapRule) (t m : List ℕ) (p₀ end₀ gap₀ p end gap : ℕ) (u : Remaining t m p₀) (i : Summing rule t m p₀ end₀ gap₀ p end gap) where
   -- At index it is done.
@@ -110,7 +112,7 @@ module _ (rule : GapRule) (t m : List ℕ) (p₀ end₀ gap₀ p end gap : ℕ) 
 
     -- The sum stays far below what a number can hold.
     pub sum-bound : end + gap + sectorSize false (x .«key_length») (x .«data_length») + gapBy rule (x .«key_length») (x .«data_length») ≤ 200000 + 2 * x .next
-    sum-bound = omega (arith, i .1, grows-stepped rule t m p false (opens-high p (i .0)) (i .2 (u .sectors) (u .steps) .remaining) x sumStep)
+    sum-bound = omega (arith, i .1, grows-stepped rule t m p false (opens-high p (i .0)) (i .2 (u .sectors) (u .steps) .remaining) x sumStep (i .3))
 
     -- The sum with the sector at p.
     pub sum-next : (n g : ℕ) → n ≡ sectorSize false (x .«key_length») (x .«data_length») → g ≡ gapBy rule (x .«key_length») (x .«data_length»)
@@ -130,4 +132,5 @@ module _ (rule : GapRule) (t m : List ℕ) (p₀ end₀ gap₀ p end gap : ℕ) 
                 ap₂ (λ (k h : ℕ). farthest rule (end + gap + k) h (v .later)) size gaps
                 ∙ sym (farthest-step rule end gap (r .remaining) (v .x) (v .later) (v .split)) ∙ r .same;
           },
+      i .3,
     )

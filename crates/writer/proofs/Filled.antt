@@ -11,10 +11,12 @@ use borrow.Author.Tests.{leb-true}
 use borrow.Rule.Slice.PartMut.{putMid}
 use Rattle.format.specs.Lent.{bytesOf, marksOf}
 use Rattle.format.specs.Block.{keySize}
+use Rattle.format.specs.GapRule.{GapRule, wantedRight}
 use Rattle.format.specs.Written.{dataSize, writtenSector, sectorSize}
 use Rattle.format.specs.Sector.{Sector, openingLength, contentRight}
 use Rattle.base.proofs.Tests.{cases, and-both}
 use Rattle.format.proofs.Cells.Opening.{unmarked-replicate}
+use Rattle.format.proofs.Written.Gap.{wanted-parts}
 use Rattle.format.proofs.Track.Pairs.{length-bytes, length-marks, bytes-unmarked}
 use Rattle.encode.specs.Laid.{laidOver, laidAt, laidIf, laidAtIf}
 use Rattle.encode.proofs.Laid.{laid-behind, laid-back-if}
@@ -40,6 +42,10 @@ unfolding contentRight
 content-bounds key body e =
     let h = and-both _ _ e in
     (leb-true (length key) 255 (h .0), leb-true (length body) 65535 (h .1))
+
+-- The same of what Add and Correct are told.
+pub wanted-bounds : (rule : GapRule) (key body : List ℕ) → wantedRight rule key body ≡ true → (length key ≤ 255) × (length body ≤ 65535)
+wanted-bounds rule key body e = content-bounds key body (wanted-parts rule key body e .1)
 
 opening-most : (b : Bool) → openingLength b ≤ 8
 opening-most true = omega arith

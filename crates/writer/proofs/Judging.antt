@@ -11,7 +11,8 @@ use Rattle.format.specs.Judged.{Judged, good, refused, then}
 use Rattle.format.specs.Lent.{lentForReading, cells, bothLent}
 use Rattle.format.specs.Home.{Home}
 use Rattle.format.specs.Accept.{Accepted, acceptCells, accept}
-use Rattle.format.specs.Written.{GapRule, gapBy, asPair}
+use Rattle.format.specs.GapRule.{GapRule}
+use Rattle.format.specs.Written.{asPair}
 use Rattle.format.specs.Add.{addCells, add}
 use Rattle.format.specs.Correct.{correctCells, correct}
 use Rattle.format.proofs.Base.Judged.{good-inj, refused-good, then-good}
@@ -52,34 +53,34 @@ module _ (t m : List ℕ) (l k : ℕ) (e : bothLent t m l k ≡ true) where
   cells-refused x h = rw (parts .0) at h
 
 -- Correct: 1 where a pair is lent out of rule,
-pub correct-lent : (rule : GapRule) (t m : List ℕ) (l k s : ℕ) (key body : List ℕ) → bothLent t m l k ≡ false → correct (gapBy rule) t m l k s key body ≡ refused lentWrong
+pub correct-lent : (rule : GapRule) (t m : List ℕ) (l k s : ℕ) (key body : List ℕ) → bothLent t m l k ≡ false → correct rule t m l k s key body ≡ refused lentWrong
 unfolding correct
 correct-lent rule t m l k s key body e = rw e
 
 module _ (rule : GapRule) (t m : List ℕ) (l k : ℕ) (e : bothLent t m l k ≡ true) (s : ℕ) (key body : List ℕ) where
   -- the track's own answer where it is refused,
-  pub correct-refused : (x : Answer) → accept t m ≡ refused x → correct (gapBy rule) t m l k s key body ≡ refused x
+  pub correct-refused : (x : Answer) → accept t m ≡ refused x → correct rule t m l k s key body ≡ refused x
   unfolding correct correctCells asPair
   correct-refused x h = rw (e, cells-refused t m l k e x h)
 
   -- and else what its cells give.
-  pub correct-cells : correct (gapBy rule) t m l k s key body ≡ asPair (correctCells (gapBy rule) (cells t m) s key body)
+  pub correct-cells : correct rule t m l k s key body ≡ asPair (correctCells rule (cells t m) s key body)
   unfolding correct
   correct-cells = rw e
 
 -- Add: 1 where a pair is lent out of rule.
-pub add-lent : (rule : GapRule) (t m : List ℕ) (l k b7 s : ℕ) (key body : List ℕ) → bothLent t m l k ≡ false → add (gapBy rule) t m l k b7 s key body ≡ refused lentWrong
+pub add-lent : (rule : GapRule) (t m : List ℕ) (l k b7 s : ℕ) (key body : List ℕ) → bothLent t m l k ≡ false → add rule t m l k b7 s key body ≡ refused lentWrong
 unfolding add
 add-lent rule t m l k b7 s key body e = rw e
 
 module _ (rule : GapRule) (t m : List ℕ) (l k : ℕ) (e : bothLent t m l k ≡ true) (b7 s : ℕ) (key body : List ℕ) where
   -- The track's own answer where it is refused,
-  pub add-refused : (x : Answer) → accept t m ≡ refused x → add (gapBy rule) t m l k b7 s key body ≡ refused x
+  pub add-refused : (x : Answer) → accept t m ≡ refused x → add rule t m l k b7 s key body ≡ refused x
   unfolding add addCells asPair
   add-refused x h = rw (e, cells-refused t m l k e x h)
 
   -- and else what its cells give.
-  pub add-cells : add (gapBy rule) t m l k b7 s key body ≡ asPair (addCells (gapBy rule) (cells t m) b7 s key body)
+  pub add-cells : add rule t m l k b7 s key body ≡ asPair (addCells rule (cells t m) b7 s key body)
   unfolding add
   add-cells = rw e
 

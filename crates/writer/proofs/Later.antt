@@ -11,7 +11,8 @@ use Rattle.format.specs.Lent.{cells, bytesOf, marksOf}
 use Rattle.format.specs.Span.{joined, none}
 use Rattle.format.specs.Sector.{Sector}
 use Rattle.format.specs.Accept.{Placed, sectorsOf}
-use Rattle.format.specs.Written.{GapRule, gapBy, gapAfter, writtenSector, reach, writtenSpans, sectorSize}
+use Rattle.format.specs.GapRule.{GapRule, gapBy}
+use Rattle.format.specs.Written.{gapAfter, writtenSector, reach, writtenSpans, sectorSize}
 use Rattle.format.proofs.Track.Pairs.{length-bytes, length-marks}
 use Rattle.encode.specs.Laid.{laidAt}
 use Rattle.encode.specs.Room.{sectorFrom}

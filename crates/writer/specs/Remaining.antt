@@ -1,6 +1,7 @@
 -- The sectors that remain of an accepted track from a place on, as the writing loops step over them.
 use mathlib.Core.Path.{_≡_}
 use Prim.Native.Nat.{ℕ, _+_, _-_, _≤_, _<_}
+use mathlib.Core.Bool.{true}
 use mathlib.Core.List.{List, [], _∷_}
 use lib.ListN.{length}
 use Rattle.base.specs.Pick.{pick}
@@ -9,7 +10,8 @@ use Rattle.format.specs.Lent.{cells}
 use Rattle.format.specs.Home.{firstCountPlace}
 use Rattle.format.specs.Span.{joined, none}
 use Rattle.format.specs.Accept.{Placed, Accepted, accept, fromNumber, sectorsOf}
-use Rattle.format.specs.Written.{GapRule, gapBy, reach, writtenSpans}
+use Rattle.format.specs.GapRule.{GapRule, gapBy, ruleRight}
+use Rattle.format.specs.Written.{reach, writtenSpans}
 use Rattle.format.specs.Correct.{withContent}
 use Rattle.sectors.specs.declared.SectorAt.{SectorAt}
 use Rattle.sectors.specs.SectorAt.{lastFirstCount, sectorAt, asSectorAt}
@@ -46,10 +48,11 @@ abbrev pub RoomFor : GapRule → ℕ → ℕ → List Placed → Type 0
 RoomFor rule l at [] = at ≡ l
 RoomFor rule l at (x ∷ xs) = at + reach (gapBy rule) (sectorsOf (x ∷ xs)) ≤ l
 
--- The sectors from place p of the old track on, all behind sector 0, have room from place `at` of the new one on.
+-- The sectors from place p of the old track on, all behind sector 0, have room from place `at` of the new one on, by a rule that is taken.
 pub record RemainingRoom (rule : GapRule) (t m : List ℕ) (p at : ℕ) : Type 0 where
   pub remaining : Remaining t m p
   pub behind : lastFirstCount < p
+  pub right : ruleRight rule ≡ true
   pub room : RoomFor rule (length t) at (remaining .sectors)
 
 -- Where the last block of the sectors xs ends, if a block before them ends at `end` and has the gap `gap` behind it.

@@ -6,18 +6,18 @@ ghost use Prim.Native.Nat.{_+_, _-_, _≤_};
 ghost use lib.ListN.{length, take, replicate};
 ghost use Rattle.format.specs.Answer.{asAnswer};
 ghost use Rattle.format.specs.Lent.{cells, bytesOf, marksOf};
-ghost use Rattle.format.specs.Written.{gapOne, gapBy, asPair, sectorSize, after, leaves};
-ghost use Rattle.format.specs.Sector.{contentRight};
+ghost use Rattle.format.specs.GapRule.{wantedRight};
+ghost use Rattle.format.specs.Written.{asPair, sectorSize, after, leaves};
 ghost use Rattle.format.specs.Add.{addedFlag, addCells, add};
 ghost use Rattle.encode.specs.Room.{sectorFrom};
 ghost use Rattle.encode.specs.Gap.{asRule};
 ghost use Rattle.writer.specs.Filled.{filledSpan};
 ghost use Rattle.writer.specs.Remaining.{ReadableFlag, Addable};
 use crate::both_lent;
-use crate::content_right;
 use crate::copy_kept;
 use crate::judge_room;
 use crate::put_span;
+use crate::wanted_right;
 use format::layout::HOME_TO_COUNT;
 
 // The flag of a new sector in position i: B8 by its position, B7, and B2 B1 as in the home flag f.
@@ -69,9 +69,9 @@ fn add_behind(
     body: &[u8],
 ) -> format::Answer
     requires { ⌜ Addable (now track) (now marks) start f s ⌝ }
-    requires { ⌜ (b7 ≤ 1) × (contentRight (now key) (now body) ≡ true) ⌝ }
+    requires { ⌜ (b7 ≤ 1) × (wantedRight (asRule rule) (now key) (now body) ≡ true) ⌝ }
     requires { ⌜ (length (now out) ≡ length (now track)) × (length (now «out_marks») ≡ length (now track)) ⌝ }
-    ensures { λ r. ⌜ after (asAnswer r) (now (out .exit)) (now («out_marks» .exit)) ≡ leaves (asPair (addCells (gapBy (asRule rule)) (cells (now (track .entry)) (now (marks .entry))) b7 s (now (key .entry)) (now (body .entry)))) (now (out .entry)) (now («out_marks» .entry)) ⌝ }
+    ensures { λ r. ⌜ after (asAnswer r) (now (out .exit)) (now («out_marks» .exit)) ≡ leaves (asPair (addCells (asRule rule) (cells (now (track .entry)) (now (marks .entry))) b7 s (now (key .entry)) (now (body .entry)))) (now (out .entry)) (now («out_marks» .entry)) ⌝ }
 {
     let last = sectors::last_of(track, marks, start);
     let kl = last.sector.key_length as u8;
@@ -105,12 +105,12 @@ fn add_on(
 ) -> format::Answer
     requires { ⌜ ReadableFlag (now track) (now marks) start f ⌝ }
     requires { ⌜ (length (now out) ≡ length (now track)) × (length (now «out_marks») ≡ length (now track)) ⌝ }
-    ensures { λ r. ⌜ after (asAnswer r) (now (out .exit)) (now («out_marks» .exit)) ≡ leaves (asPair (addCells (gapBy (asRule rule)) (cells (now (track .entry)) (now (marks .entry))) b7 s (now (key .entry)) (now (body .entry)))) (now (out .entry)) (now («out_marks» .entry)) ⌝ }
+    ensures { λ r. ⌜ after (asAnswer r) (now (out .exit)) (now («out_marks» .exit)) ≡ leaves (asPair (addCells (asRule rule) (cells (now (track .entry)) (now (marks .entry))) b7 s (now (key .entry)) (now (body .entry)))) (now (out .entry)) (now («out_marks» .entry)) ⌝ }
 {
     if 1 < b7 {
         return format::wanted_wrong();
     }
-    if !content_right(key, body) {
+    if !wanted_right(rule, key, body) {
         return format::wanted_wrong();
     }
     let sought = sectors::place_of(track, marks, start, s);
@@ -142,8 +142,9 @@ pub fn add(
     s: u8,
     key: &[u8],
     body: &[u8],
+    rule: encode::GapRule,
 ) -> format::Answer
-    ensures { λ r. ⌜ after (asAnswer r) (now («new_track» .exit)) (now («new_marks» .exit)) ≡ leaves (add gapOne (now (track .entry)) (now (marks .entry)) (length (now («new_track» .entry))) (length (now («new_marks» .entry))) b7 s (now (key .entry)) (now (body .entry))) (now («new_track» .entry)) (now («new_marks» .entry)) ⌝ }
+    ensures { λ r. ⌜ after (asAnswer r) (now («new_track» .exit)) (now («new_marks» .exit)) ≡ leaves (add (asRule rule) (now (track .entry)) (now (marks .entry)) (length (now («new_track» .entry))) (length (now («new_marks» .entry))) b7 s (now (key .entry)) (now (body .entry))) (now («new_track» .entry)) (now («new_marks» .entry)) ⌝ }
 {
     if !both_lent(track, marks, new_track.len(), new_marks.len()) {
         return format::lent_wrong();
@@ -153,7 +154,7 @@ pub fn add(
         accepting::Judged::Accepted(h) => {
             let start = h.place + HOME_TO_COUNT;
             add_on(
-                encode::GapRule::One,
+                rule,
                 track,
                 marks,
                 new_track,

@@ -1,23 +1,25 @@
 // Correct: a sector gets a new key and data, and all behind its count's opening is written anew.
 ghost use mathlib.Core.Path.{_≡_};
+ghost use mathlib.Core.Bool.{true};
 ghost use mathlib.Core.List.{List, _∷_, _++_};
 ghost use Prim.Native.Nat.{_+_, _-_, _≤_, _<_};
 ghost use lib.ListN.{length, take};
 ghost use Rattle.format.specs.Answer.{asAnswer};
 ghost use Rattle.format.specs.Lent.{cells, bytesOf, marksOf};
 ghost use Rattle.format.specs.Accept.{Placed};
-ghost use Rattle.format.specs.Written.{gapOne, gapBy, asPair, after, leaves};
+ghost use Rattle.format.specs.GapRule.{ruleRight, wantedRight};
+ghost use Rattle.format.specs.Written.{asPair, after, leaves};
 ghost use Rattle.format.specs.Correct.{correctCells, correct};
 ghost use Rattle.encode.specs.Gap.{asRule};
 ghost use Rattle.sectors.specs.SectorAt.{lastFirstCount};
 ghost use Rattle.sectors.specs.From.{SectorsFrom, Remaining};
 ghost use Rattle.writer.specs.Remaining.{Readable, ReadAt, RemainingRoom, RoomFor, laterCells, farthest, correctedEnd, correctedCells};
 use crate::both_lent;
-use crate::content_right;
 use crate::copy_kept;
 use crate::judge_room;
 use crate::put_span;
 use crate::span_end;
+use crate::wanted_right;
 use format::layout::HOME_TO_COUNT;
 
 // The place at which the last block ends, if the sectors from place p on are written behind a block that ends at `end` with the gap `gap`.
@@ -30,7 +32,7 @@ fn end_of_later(
     gap: usize,
 ) -> usize
     requires { ⌜ Remaining (now track) (now marks) p ⌝ }
-    requires { ⌜ (lastFirstCount < p) × (end + gap ≤ 200000) ⌝ }
+    requires { ⌜ (lastFirstCount < p) × (end + gap ≤ 200000) × (ruleRight (asRule rule) ≡ true) ⌝ }
     ensures { λ r. ⌜ ((xs : List Placed) → SectorsFrom (now (track .entry)) (now (marks .entry)) p xs → r ≡ farthest (asRule rule) end gap xs) ⌝ }
 {
     let mut p = p;
@@ -100,7 +102,7 @@ fn corrected_end(
     body: &[u8],
 ) -> usize
     requires { ⌜ ReadAt (now track) (now marks) q x ⌝ }
-    requires { ⌜ (length (now key) ≤ 255) × (length (now body) ≤ 65535) ⌝ }
+    requires { ⌜ wantedRight (asRule rule) (now key) (now body) ≡ true ⌝ }
     ensures { λ r. ⌜ ((y : Placed) (ys : List Placed) → SectorsFrom (now (track .entry)) (now (marks .entry)) q (y ∷ ys) → r ≡ correctedEnd (asRule rule) q (now (key .entry)) (now (body .entry)) y ys) ⌝ }
 {
     let kl = key.len() as u8;
@@ -131,7 +133,7 @@ fn write_corrected(
 )
     requires { ⌜ ReadAt (now track) (now marks) q x ⌝ }
     requires { ⌜ ((y : Placed) (ys : List Placed) → SectorsFrom (now track) (now marks) q (y ∷ ys) → correctedEnd (asRule rule) q (now key) (now body) y ys ≤ length (now track)) ⌝ }
-    requires { ⌜ (length (now key) ≤ 255) × (length (now body) ≤ 65535) ⌝ }
+    requires { ⌜ wantedRight (asRule rule) (now key) (now body) ≡ true ⌝ }
     requires { ⌜ (length (now marks) ≡ length (now track)) × (length (now out) ≡ length (now track)) × (length (now «out_marks») ≡ length (now track)) ⌝ }
     ensures bytes { λ _. ⌜ ((y : Placed) (ys : List Placed) → SectorsFrom (now (track .entry)) (now (marks .entry)) q (y ∷ ys) → now (out .exit) ≡ take q (now (track .entry)) ++ bytesOf (correctedCells (asRule rule) (length (now (track .entry))) q (now (key .entry)) (now (body .entry)) y ys)) ⌝ }
     ensures marks { λ _. ⌜ ((y : Placed) (ys : List Placed) → SectorsFrom (now (track .entry)) (now (marks .entry)) q (y ∷ ys) → now («out_marks» .exit) ≡ take q (now (marks .entry)) ++ marksOf (correctedCells (asRule rule) (length (now (track .entry))) q (now (key .entry)) (now (body .entry)) y ys)) ⌝ }
@@ -159,9 +161,9 @@ fn correct_on(
 ) -> format::Answer
     requires { ⌜ Readable (now track) (now marks) start ⌝ }
     requires { ⌜ (length (now out) ≡ length (now track)) × (length (now «out_marks») ≡ length (now track)) ⌝ }
-    ensures { λ r. ⌜ after (asAnswer r) (now (out .exit)) (now («out_marks» .exit)) ≡ leaves (asPair (correctCells (gapBy (asRule rule)) (cells (now (track .entry)) (now (marks .entry))) s (now (key .entry)) (now (body .entry)))) (now (out .entry)) (now («out_marks» .entry)) ⌝ }
+    ensures { λ r. ⌜ after (asAnswer r) (now (out .exit)) (now («out_marks» .exit)) ≡ leaves (asPair (correctCells (asRule rule) (cells (now (track .entry)) (now (marks .entry))) s (now (key .entry)) (now (body .entry)))) (now (out .entry)) (now («out_marks» .entry)) ⌝ }
 {
-    if !content_right(key, body) {
+    if !wanted_right(rule, key, body) {
         return format::wanted_wrong();
     }
     let sought = sectors::place_of(track, marks, start, s);
@@ -195,8 +197,9 @@ pub fn correct(
     s: u8,
     key: &[u8],
     body: &[u8],
+    rule: encode::GapRule,
 ) -> format::Answer
-    ensures { λ r. ⌜ after (asAnswer r) (now («new_track» .exit)) (now («new_marks» .exit)) ≡ leaves (correct gapOne (now (track .entry)) (now (marks .entry)) (length (now («new_track» .entry))) (length (now («new_marks» .entry))) s (now (key .entry)) (now (body .entry))) (now («new_track» .entry)) (now («new_marks» .entry)) ⌝ }
+    ensures { λ r. ⌜ after (asAnswer r) (now («new_track» .exit)) (now («new_marks» .exit)) ≡ leaves (correct (asRule rule) (now (track .entry)) (now (marks .entry)) (length (now («new_track» .entry))) (length (now («new_marks» .entry))) s (now (key .entry)) (now (body .entry))) (now («new_track» .entry)) (now («new_marks» .entry)) ⌝ }
 {
     if !both_lent(track, marks, new_track.len(), new_marks.len()) {
         return format::lent_wrong();
@@ -206,7 +209,7 @@ pub fn correct(
         accepting::Judged::Accepted(h) => {
             let start = h.place + HOME_TO_COUNT;
             correct_on(
-                encode::GapRule::One,
+                rule,
                 track,
                 marks,
                 new_track,

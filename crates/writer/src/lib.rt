@@ -8,7 +8,8 @@ ghost use Rattle.base.specs.Pick.{pick};
 ghost use Rattle.format.specs.Answer.{asAnswer, done, roomMissing};
 ghost use Rattle.format.specs.Lent.{bytesOf, marksOf, bothLent};
 ghost use Rattle.format.specs.Block.{leastGap};
-ghost use Rattle.format.specs.Written.{gapBy, sectorSize};
+ghost use Rattle.format.specs.GapRule.{gapBy, ruleRight, wantedRight};
+ghost use Rattle.format.specs.Written.{sectorSize};
 ghost use Rattle.format.specs.Sector.{contentRight};
 ghost use Rattle.encode.specs.Laid.{laidOver, laidAt};
 ghost use Rattle.encode.specs.Room.{sectorFrom};
@@ -31,6 +32,16 @@ fn content_right(key: &[u8], body: &[u8]) -> bool
         return false;
     }
     body.len() <= 65535
+}
+
+// Whether what Add and Correct both are told is within its ranges: the rule of the gap, the key and the data.
+fn wanted_right(rule: encode::GapRule, key: &[u8], body: &[u8]) -> bool
+    ensures { λ r. ⌜ r ≡ wantedRight (asRule rule) (now (key .entry)) (now (body .entry)) ⌝ }
+{
+    if !encode::rule_right(rule) {
+        return false;
+    }
+    content_right(key, body)
 }
 
 // Whether both pairs are lent within the rule: the read one, and the written one of the lengths l and k.
@@ -68,7 +79,7 @@ fn span_end(
     l: usize,
 ) -> usize
     requires { ⌜ (kl ≤ 255) × (dl ≤ 65535) ⌝ }
-    requires { ⌜ at ≤ 4002 ⌝ }
+    requires { ⌜ (at ≤ 4002) × (ruleRight (asRule rule) ≡ true) ⌝ }
     ensures { λ r. ⌜ r ≡ pick last l (at + sectorSize first kl dl + gapBy (asRule rule) kl dl) ⌝ }
 {
     if last {

@@ -1,22 +1,25 @@
--- `gap_after` meets its contract: rule one is the only rule.
-use mathlib.Core.Path.{_≡_, refl, _∙_}
-use Prim.Native.Nat.{ℕ}
+-- `gap_after` meets its contract: each rule by its own function.
 use borrow.Author.Needs.{needs}
-use Rattle.format.specs.Written.{gapOne, gapBy}
-use Rattle.encode.specs.declared.GapRule.{GapRule}
-use Rattle.encode.specs.declared.GapRule.the-variants.{One}
-use Rattle.encode.specs.Gap.{asRule}
 use Rattle.encode.proofs.gap_after.Statement.{statement}
 use Rattle.encode.proofs.gap_after.Tie as tie
+
+enum-told : tie.Need-enum-told
+enum-told c = search needs
 
 gap-one-requires : tie.Need-gap-one-requires
 gap-one-requires c κs = search needs
 
-by-one : (rule : GapRule) (kl dl : ℕ) → gapOne kl dl ≡ gapBy (asRule rule) kl dl
-by-one One kl dl = refl
+enum-known-rule : tie.Need-enum-known-rule
+enum-known-rule c = search needs
+
+gap-two-requires : tie.Need-gap-two-requires
+gap-two-requires c κs = search needs
 
 returns : tie.Need-returns
-returns c = let a = c .before .args in c .gap-one .ensures ∙ by-one (a .rule) (a .kl) (a .dl)
+returns c = rw (c .before .enum-told .given .1) (c .gap-one .ensures)
+
+returns-2 : tie.Need-returns-2
+returns-2 c = rw (c .before .before .rule .given .1) (c .gap-two .ensures)
 
 pub gap-after-spec : {M : Type 1} → statement M
-gap-after-spec = tie.close (tie.spec gap-one-requires returns)
+gap-after-spec = tie.close (tie.spec enum-told gap-one-requires enum-known-rule gap-two-requires returns returns-2)

@@ -1,6 +1,6 @@
 -- `gap_one` meets its contract.
 use borrow.Author.Needs.{needs}
-use Rattle.format.specs.Written.{gapOne}
+use Rattle.format.specs.GapRule.{gapOne}
 use Rattle.encode.proofs.gap_one.Statement.{statement}
 use Rattle.encode.proofs.gap_one.Tie as tie
 

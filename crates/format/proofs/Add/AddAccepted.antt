@@ -14,11 +14,12 @@ use Rattle.format.specs.Home.{Home, firstCountPlace}
 use Rattle.format.specs.Count.{unsettled}
 use Rattle.format.specs.Span.{joined, none}
 use Rattle.format.specs.Accept.{Placed, placedFrom, Accepted, acceptCells, endOf, fromNumber, sectorsOf}
-use Rattle.format.specs.Sector.{contentRight}
+use Rattle.format.specs.GapRule.{GapRule, gapBy, wantedRight}
 use Rattle.format.specs.Add.{judgeAbsent, addedTo, addCells}
 use Rattle.format.proofs.Base.Judged.{then-good, require-good}
 use Rattle.base.proofs.Tests.{and-both, false-true}
 use Rattle.format.proofs.Track.TakenApart.{taken-apart}
+use Rattle.format.proofs.Written.Gap.{rule-least, wanted-parts}
 use Rattle.format.proofs.Written.WrittenEnds.{gapsOf}
 use Rattle.format.proofs.Add.GrownSpans.{gapsBeforeLast, end-in}
 use Rattle.format.proofs.Add.NewSector.{newSector, lastEnd, lastGap, addEnd, addNeed, added-room}
@@ -48,17 +49,20 @@ some-room : (gap : ℕ → ℕ → ℕ) (c : List ℕ) (h : Home) (b7 s : ℕ) (
 some-room gap c h b7 s key body [] n l = false-true (sym n)
 some-room gap c h b7 s key body (x ∷ xs) n l = (_, added-room gap c h 0 b7 s key body x xs l)
 
-module _ (gap : ℕ → ℕ → ℕ) (c : List ℕ) (a : Accepted) (accepted : acceptCells c ≡ good a) (b7 s : ℕ) (key body : List ℕ) where
+module _ (rule : GapRule) (c : List ℕ) (a : Accepted) (accepted : acceptCells c ≡ good a) (b7 s : ℕ) (key body : List ℕ) where
+  abbrev gap : ℕ → ℕ → ℕ
+  gap = gapBy rule
+
   -- Add on an accepted track, behind the answers of the track itself.
-  add-is : addCells gap c b7 s key body
-      ≡ require (leb b7 1 && contentRight key body) wantedWrong
+  add-is : addCells rule c b7 s key body
+      ≡ require (leb b7 1 && wantedRight rule key body) wantedWrong
       (then (judgeAbsent (fromNumber s (a .sectors))) (λ _. addedTo gap c (a .home) 0 b7 s key body (a .sectors)))
   unfolding addCells
   add-is = rw accepted
 
   -- What Add writes is accepted: the same home, the same sectors and the new one behind them, and all up to the end of the old last block copied; the old blocks end where they
   -- ended, the new one as it is written. The gap behind the block that was the last is the rule's, that of the new one runs to index, and the others stay.
-  pub add-accepted : ((k d : ℕ) → 21 ≤ gap k d) → unmarked key ≡ true → unmarked body ≡ true → s < 256 → (e : List ℕ) → addCells gap c b7 s key body ≡ good e
+  pub add-accepted : unmarked key ≡ true → unmarked body ≡ true → s < 256 → (e : List ℕ) → addCells rule c b7 s key body ≡ good e
       → (b : Accepted)
       × (acceptCells e ≡ good b)
       × (b .home ≡ a .home)
@@ -67,26 +71,26 @@ module _ (gap : ℕ → ℕ → ℕ) (c : List ℕ) (a : Accepted) (accepted : a
       × (take (lastEnd (a .sectors)) e ≡ take (lastEnd (a .sectors)) c)
       × (map endOf (b .sectors) ≡ map endOf (a .sectors) ++ addEnd gap (a .sectors) key body ∷ [])
       × (gapsOf (b .sectors) ≡ gapsBeforeLast (a .sectors) ++ lastGap gap (a .sectors) ∷ (length c - addEnd gap (a .sectors) key body) ∷ [])
-  add-accepted least uk ub n e f =
+  add-accepted uk ub n e f =
       let t = taken-apart c a accepted in
-      let q = require-good (leb b7 1 && contentRight key body) wantedWrong _ e (sym add-is ∙ f) in
-      let w = and-both (leb b7 1) (contentRight key body) (q .0) in
+      let q = require-good (leb b7 1 && wantedRight rule key body) wantedWrong _ e (sym add-is ∙ f) in
+      let w = and-both (leb b7 1) (wantedRight rule key body) (q .0) in
       let j = then-good (judgeAbsent (fromNumber s (a .sectors))) _ e (q .1) in
       let Goal : List ℕ → Accepted → Type 0 =
       λ z y. judgeAbsent (fromNumber s (y .sectors)) ≡ good tt → addedTo gap z (y .home) 0 b7 s key body (y .sectors) ≡ good e → Outcome z y (newSector y b7 s key body) (lastGap gap (y .sectors)) (addEnd gap (y .sectors) key body) e in
       subst₂ Goal (t .whole) (t .same)
-      (track-added gap least (t .head) (a .home) (t .span) (t .spans) (t .sector) (t .sectors) (t .track) b7 s key body e uk ub n (w .1) (leb-true b7 1 (w .0)))
+      (track-added gap (rule-least rule) (t .head) (a .home) (t .span) (t .spans) (t .sector) (t .sectors) (t .track) b7 s key body e uk ub n (wanted-parts rule key body (w .1) .1) (leb-true b7 1 (w .0)))
       (j .1) (j .2)
 
   -- There is room exactly where the block of the new sector ends no later than 13 bytes before index.
-  pub add-room : b7 ≤ 1 → contentRight key body ≡ true → judgeAbsent (fromNumber s (a .sectors)) ≡ good tt
-      → (length c < addNeed gap (a .sectors) key body → addCells gap c b7 s key body ≡ refused roomMissing)
-      × (addNeed gap (a .sectors) key body ≤ length c → (e : List ℕ) × (addCells gap c b7 s key body ≡ good e))
+  pub add-room : b7 ≤ 1 → wantedRight rule key body ≡ true → judgeAbsent (fromNumber s (a .sectors)) ≡ good tt
+      → (length c < addNeed gap (a .sectors) key body → addCells rule c b7 s key body ≡ refused roomMissing)
+      × (addNeed gap (a .sectors) key body ≤ length c → (e : List ℕ) × (addCells rule c b7 s key body ≡ good e))
   add-room hb r absent =
       let k = accepted-end c a accepted in
       let need : ℕ = addNeed gap (a .sectors) key body in
       let w = some-room gap c (a .home) b7 s key body (a .sectors) (k .0) (omega (arith, k .1)) in
-      let e : addCells gap c b7 s key body ≡ require (leb need (length c)) roomMissing (good (w .0)) = add-is ∙ rw (le-leb b7 1 hb, r, absent) (w .1) in (
+      let e : addCells rule c b7 s key body ≡ require (leb need (length c)) roomMissing (good (w .0)) = add-is ∙ rw (le-leb b7 1 hb, r, absent) (w .1) in (
         λ l. e ∙ rw (lt-leb need (length c) l),
         λ l. (w .0, e ∙ rw (le-leb need (length c) l)),
       )

@@ -1,6 +1,6 @@
 -- Add behind a data block of ten bytes copies all ten.
 use mathlib.Core.Path.{_≡_, sym, ap, _∙_}
-use Prim.Native.Nat.{ℕ, _+_, _-_, _≤_, _<_}
+use Prim.Native.Nat.{ℕ, _+_, _-_, _<_}
 use native.Mathlib.Omega.{arith}
 use mathlib.Core.Bool.{true}
 use mathlib.Core.List.{List, _∷_}
@@ -15,6 +15,7 @@ use Rattle.format.specs.Block.{dataOffset, emptyClosing, emptySize, bloc
 use Rattle.format.specs.Blocks.{blocksAt}
 use Rattle.format.specs.Sector.{openingLength}
 use Rattle.format.specs.Accept.{Placed, Accepted, accept, endOf, lastOf}
+use Rattle.format.specs.GapRule.{GapRule}
 use Rattle.format.specs.Written.{Pair}
 use Rattle.format.specs.Add.{add}
 use Rattle.format.proofs.Add.AddPair.{add-pair}
@@ -43,14 +44,14 @@ ten-same xs ys n e q same =
     ap (λ (j : ℕ). take j (drop n xs)) (sym k) ∙ sym (drop-take n e xs) ∙ ap (drop n) same ∙ drop-take n e ys ∙ ap (λ (j : ℕ). take j (drop n ys)) k
 
 -- What Add writes has the ten bytes of the old last block where they stood, and their marks.
-pub ten-copied : (gap : ℕ → ℕ → ℕ) (t m : List ℕ) (l k b7 s : ℕ) (key body : List ℕ) → ((i d : ℕ) → 21 ≤ gap i d)
+pub ten-copied : (rule : GapRule) (t m : List ℕ) (l k b7 s : ℕ) (key body : List ℕ)
     → unmarked t ≡ true → unmarked key ≡ true → unmarked body ≡ true → s < 256
     → (a : Accepted) → accept t m ≡ good a → (x : Placed) (xs : List Placed) → a .sectors ≡ x ∷ xs → HasTen (lastOf x xs)
-    → (q : Pair) → add gap t m l k b7 s key body ≡ good q
+    → (q : Pair) → add rule t m l k b7 s key body ≡ good q
     → (take 10 (drop (blockOpens (lastOf x xs)) (q .track)) ≡ take 10 (drop (blockOpens (lastOf x xs)) t))
     × (take 10 (drop (blockOpens (lastOf x xs)) (q .marks)) ≡ take 10 (drop (blockOpens (lastOf x xs)) m))
-ten-copied gap t m l k b7 s key body least ut uk ub n a acc x xs f v q e =
-    let z = add-pair gap t m l k b7 s key body least ut uk ub n a acc q e in
+ten-copied rule t m l k b7 s key body ut uk ub n a acc x xs f v q e =
+    let z = add-pair rule t m l k b7 s key body ut uk ub n a acc q e in
     let y : Placed = lastOf x xs in (
       ten-same (q .track) t (blockOpens y) (endOf y) (ten-end y v) (rw f at (z .6)),
       ten-same (q .marks) m (blockOpens y) (endOf y) (ten-end y v) (rw f at (z .7)),

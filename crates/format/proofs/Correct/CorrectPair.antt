@@ -14,8 +14,9 @@ use Rattle.format.specs.Lent.{lengthRight, cells, bytesOf, marksOf, unma
 use Rattle.format.specs.Home.{firstCountPlace}
 use Rattle.format.specs.Block.{leastGap}
 use Rattle.format.specs.Span.{joined}
-use Rattle.format.specs.Sector.{Sector, contentRight}
+use Rattle.format.specs.Sector.{Sector}
 use Rattle.format.specs.Accept.{Placed, placedFrom, Accepted, spansOf, accept, acceptCells, fromNumber, sectorsOf}
+use Rattle.format.specs.GapRule.{GapRule, gapBy, wantedRight}
 use Rattle.format.specs.Written.{Pair, reach, writtenSpans, writtenBehind}
 use Rattle.format.specs.Correct.{withContent, rewrittenFrom, correctCells}
 use Rattle.format.specs.Together.{Correction, replacedBy, leftPlace, corrected, correctedPair}
@@ -53,12 +54,12 @@ place-in-track c a e s y ys f =
     y ys
     (ap (λ (z : Accepted). fromNumber s (z .sectors)) (t .3) ∙ f)
 
-module _ (gap : ℕ → ℕ → ℕ) where
+module _ (rule : GapRule) where
   -- The corrected pair is accepted, as long as before, with the same home and the same sectors but for the new key and data; bytes and marks before
   -- the corrected sector are copied. From there on blocks end as they are written, the gaps behind them are the rule's and the last one runs to index; the sectors before stay, with
   -- places and spans.
-  pub correct-pair : ((k d : ℕ) → 21 ≤ gap k d) → (t m : List ℕ) → unmarked t ≡ true → (a : Accepted) → accept t m ≡ good a → (x : Correction) → Bytes x
-      → (q : Pair) → correctedPair gap t m x ≡ good q
+  pub correct-pair : (t m : List ℕ) → unmarked t ≡ true → (a : Accepted) → accept t m ≡ good a → (x : Correction) → Bytes x
+      → (q : Pair) → correctedPair rule t m x ≡ good q
       → (b : Accepted)
       × (accept (q .track) (q .marks) ≡ good b)
       × (b .home ≡ a .home)
@@ -68,14 +69,14 @@ module _ (gap : ℕ → ℕ → ℕ) where
       × (take (leftPlace (fromNumber (x .number) (a .sectors))) (q .track) ≡ take (leftPlace (fromNumber (x .number) (a .sectors))) t)
       × (take (leftPlace (fromNumber (x .number) (a .sectors))) (q .marks) ≡ take (leftPlace (fromNumber (x .number) (a .sectors))) m)
       × EndsWritten (fromNumber (x .number) (b .sectors))
-      × GapsWritten gap (length t) (fromNumber (x .number) (b .sectors))
+      × GapsWritten (gapBy rule) (length t) (fromNumber (x .number) (b .sectors))
       × (beforeHit (named x) (b .sectors) ≡ beforeHit (named x) (a .sectors))
-  correct-pair least t m ut a e x bx q k =
+  correct-pair t m ut a e x bx q k =
       let g = accepted-pair t m a e in
       let n = lent-length t m (g .0) in
-      let i = written-pair (corrected gap (cells t m) x) q (sym (lent-corrected gap t m x (g .0)) ∙ k) in
+      let i = written-pair (corrected rule (cells t m) x) q (sym (lent-corrected rule t m x (g .0)) ∙ k) in
       let c : List ℕ = i .0 in
-      let s = correct-accepted gap least (cells t m) a (g .1) x bx c (i .1) in
+      let s = correct-accepted rule (cells t m) a (g .1) x bx c (i .1) in
       let long : length c ≡ length t = s .4 ∙ n .0 in
       let marked : length m ≡ length t = lent-marks t m (g .0) in
       let track : bytesOf c ≡ q .track = ap (λ (z : Pair). z .track) (i .2) in
@@ -90,24 +91,24 @@ module _ (gap : ℕ → ℕ → ℕ) where
         ap (take p) (sym track) ∙ bytes-copied p c (cells t m) (s .5) ∙ ap (take p) (bytes-cells t m marked ut),
         ap (take p) (sym marks) ∙ marks-copied p c (cells t m) (s .5) ∙ ap (take p) (marks-cells t m marked ut),
         s .6,
-        subst (λ (l : ℕ). GapsWritten gap l (fromNumber (x .number) (s .0 .sectors))) (n .0) (s .7),
+        subst (λ (l : ℕ). GapsWritten (gapBy rule) l (fromNumber (x .number) (s .0 .sectors))) (n .0) (s .7),
         s .8,
       )
 
   -- Where the last block ends if the sector y, with the sectors ys behind it, gets a new key and data, and the least gap behind it.
   unfoldable pub correctNeed : List ℕ → List ℕ → Placed → List Placed → ℕ
-  correctNeed key body y ys = y .place + reach gap (withContent key body (y .sector) ∷ sectorsOf ys) + 13
+  correctNeed key body y ys = y .place + reach (gapBy rule) (withContent key body (y .sector) ∷ sectorsOf ys) + 13
 
   -- 15 is the answer exactly where that is later than L.
-  pub correct-room : (c : List ℕ) (a : Accepted) → acceptCells c ≡ good a → (s : ℕ) (key body : List ℕ) → contentRight key body ≡ true
+  pub correct-room : (c : List ℕ) (a : Accepted) → acceptCells c ≡ good a → (s : ℕ) (key body : List ℕ) → wantedRight rule key body ≡ true
       → (y : Placed) (ys : List Placed) → fromNumber s (a .sectors) ≡ y ∷ ys
-      → (length c < correctNeed key body y ys → correctCells gap c s key body ≡ refused roomMissing)
-      × (correctNeed key body y ys ≤ length c → (d : List ℕ) × (correctCells gap c s key body ≡ good d))
+      → (length c < correctNeed key body y ys → correctCells rule c s key body ≡ refused roomMissing)
+      × (correctNeed key body y ys ≤ length c → (d : List ℕ) × (correctCells rule c s key body ≡ good d))
   unfolding correctCells rewrittenFrom writtenBehind correctNeed leastGap
   correct-room c a e s key body r y ys f =
       let l : y .place ≤ length c = place-in-track c a e s y ys f in
       let ss : List Sector = withContent key body (y .sector) ∷ sectorsOf ys in
       let p : ℕ = y .place in (
-        λ short. rw (e, r, f, length-take-le p c l, lt-leb (p + reach gap ss + 13) (length c) (omega arith)),
-        λ long. (take p c ++ joined (writtenSpans gap (length c - p) ss), rw (e, r, f, length-take-le p c l, le-leb (p + reach gap ss + 13) (length c) (omega arith))),
+        λ short. rw (e, r, f, length-take-le p c l, lt-leb (p + reach (gapBy rule) ss + 13) (length c) (omega arith)),
+        λ long. (take p c ++ joined (writtenSpans (gapBy rule) (length c - p) ss), rw (e, r, f, length-take-le p c l, le-leb (p + reach (gapBy rule) ss + 13) (length c) (omega arith))),
       )

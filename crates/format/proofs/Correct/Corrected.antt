@@ -1,6 +1,6 @@
 -- A correction of an accepted track in terms of its spans, and the track after it.
 use mathlib.Core.Path.{_≡_, refl, sym, ap, _∙_}
-use Prim.Native.Nat.{ℕ, _+_, _≤_}
+use Prim.Native.Nat.{ℕ, _+_}
 use mathlib.Core.Bool.{true}
 use mathlib.Core.List.{List, [], _∷_, _++_, map}
 use lib.ListN.{length, take, length-append, length-map}
@@ -9,8 +9,9 @@ use Rattle.format.specs.Judged.{good, require}
 use Rattle.format.specs.Home.{Home, firstCountPlace}
 use Rattle.format.specs.Count.{unsettled}
 use Rattle.format.specs.Span.{joined}
-use Rattle.format.specs.Sector.{Sector, contentRight}
+use Rattle.format.specs.Sector.{Sector}
 use Rattle.format.specs.Accept.{Placed, placedFrom, judgeNumbers, fromNumber, sectorsOf}
+use Rattle.format.specs.GapRule.{GapRule, gapBy, wantedRight}
 use Rattle.format.specs.Correct.{rewrittenFrom, correctCells}
 use Rattle.format.specs.Together.{Correction, replacedBy, leftPlace, withBoth, corrected, fitTogether, writtenTogether, together}
 use Rattle.format.proofs.Spans.Shape.{AllValid}
@@ -18,6 +19,7 @@ use Rattle.format.proofs.Base.Judged.{good-inj, refused-good, require-g
 use Rattle.base.proofs.Tests.{cases}
 use Rattle.format.proofs.Track.HomeLocal.{home-local}
 use Rattle.format.proofs.Sector.ReadsAs.{length-reads, reads-valid, sectors-placed}
+use Rattle.format.proofs.Written.Gap.{rule-least, wanted-parts}
 use Rattle.format.proofs.Correct.Replaced.{Bytes, named, namedEither, replaced-named, replaced-numbers, replaced-valid}
 use Rattle.format.proofs.Correct.Relaid.{anyHit, relaid, room, length-relaid}
 use Rattle.format.proofs.Correct.RelaidReads.{shape-relaid, none-relaid, clean-relaid, relaid-reaches, reads-relaid}
@@ -41,7 +43,10 @@ unfolding withBoth
 with-both-map a b [] = refl
 with-both-map a b (s ∷ ss) = ap (λ (rs : List Sector). replacedBy b (replacedBy a s) ∷ rs) (with-both-map a b ss)
 
-module _ (gap : ℕ → ℕ → ℕ) (head : List ℕ) (h : Home) (gs : List (List ℕ)) (ss : List Sector) (t : Track head h gs ss) where
+module _ (rule : GapRule) (head : List ℕ) (h : Home) (gs : List (List ℕ)) (ss : List Sector) (t : Track head h gs ss) where
+  abbrev gap : ℕ → ℕ → ℕ
+  gap = gapBy rule
+
   abbrev start : ℕ
   start = firstCountPlace (h .place)
 
@@ -55,8 +60,8 @@ module _ (gap : ℕ → ℕ → ℕ) (head : List ℕ) (h : Home) (gs : List (Li
   sectors-are = track-sectors head h gs ss t
 
   -- A correction within the rule of a sector that is there keeps the spans up to it and writes afresh from there, or has no room.
-  pub corrected-spans : (a : Correction) → contentRight (a .key) (a .body) ≡ true → anyHit (named a) ss ≡ true
-      → corrected gap (head ++ joined gs) a
+  pub corrected-spans : (a : Correction) → wantedRight rule (a .key) (a .body) ≡ true → anyHit (named a) ss ≡ true
+      → corrected rule (head ++ joined gs) a
       ≡ require (room gap (named a) gs (map (replacedBy a) ss)) roomMissing (good (head ++ joined (relaid gap (named a) gs (map (replacedBy a) ss))))
   unfolding correctCells
   corrected-spans a r n =
@@ -69,22 +74,22 @@ module _ (gap : ℕ → ℕ → ℕ) (head : List ℕ) (h : Home) (gs : List (Li
 
   -- What a correction that is done has met, and the track that it gives.
   pub record Done (a : Correction) (d : List ℕ) : Type 0 where
-    pub content : contentRight (a .key) (a .body) ≡ true
+    pub wanted : wantedRight rule (a .key) (a .body) ≡ true
     pub present : anyHit (named a) ss ≡ true
     pub enough : room gap (named a) gs (map (replacedBy a) ss) ≡ true
     pub becomes : head ++ joined (relaid gap (named a) gs (map (replacedBy a) ss)) ≡ d
 
   -- A correction that gives a track has met all this.
-  pub corrected-done : (a : Correction) (d : List ℕ) → corrected gap (head ++ joined gs) a ≡ good d → Done a d
+  pub corrected-done : (a : Correction) (d : List ℕ) → corrected rule (head ++ joined gs) a ≡ good d → Done a d
   unfolding correctCells rewrittenFrom
   corrected-done a d e =
       let c : List ℕ = head ++ joined gs in
-      let k = require-good (contentRight (a .key) (a .body)) wantedWrong (rewrittenFrom gap c (a .key) (a .body) (fromNumber (a .number) placed)) d
+      let k = require-good (wantedRight rule (a .key) (a .body)) wantedWrong (rewrittenFrom gap c (a .key) (a .body) (fromNumber (a .number) placed)) d
       (rw (track-accepted head h gs ss t) at e) in
       cases (anyHit (named a) ss)
       (λ n.
       let r = require-good (room gap (named a) gs (map (replacedBy a) ss)) roomMissing _ d (sym (corrected-spans a (k .0) n) ∙ e) in
-      record { content = k .0; present = n; enough = r .0; becomes = good-inj _ d (r .1) })
+      record { wanted = k .0; present = n; enough = r .0; becomes = good-inj _ d (r .1) })
       (λ n. refused-good sectorMissing d (rw (from-number a placed, from-none (named a) placed (ap (anyHit (named a)) sectors-are ∙ n)) at (k .1)))
 
   -- The track after a correction is as long as before.
@@ -113,13 +118,13 @@ module _ (gap : ℕ → ℕ → ℕ) (head : List ℕ) (h : Home) (gs : List (Li
       (t .numbers)
 
   -- It has the head of the track before it, and spans that read as the corrected sectors.
-  pub done-track : ((k d : ℕ) → 21 ≤ gap k d) → (a : Correction) (d : List ℕ) → Bytes a → Done a d
+  pub done-track : (a : Correction) (d : List ℕ) → Bytes a → Done a d
       → Track head h (relaid gap (named a) gs (map (replacedBy a) ss)) (map (replacedBy a) ss)
-  done-track least a d b r =
+  done-track a d b r =
       let new : List Sector = map (replacedBy a) ss in
       let ks : List (List ℕ) = relaid gap (named a) gs new in
-      let v : AllValid h 0 unsettled new = replaced-valid a b (r .content) h 0 unsettled ss (reads-valid h 0 unsettled start gs ss (t .clean) (t .reads)) in
-      let reads = reads-relaid gap least a h 0 unsettled start gs ss (t .reads) v (r .enough) in
+      let v : AllValid h 0 unsettled new = replaced-valid a b (wanted-parts rule (a .key) (a .body) (r .wanted) .1) h 0 unsettled ss (reads-valid h 0 unsettled start gs ss (t .clean) (t .reads)) in
+      let reads = reads-relaid gap (rule-least rule) a h 0 unsettled start gs ss (t .reads) v (r .enough) in
       record {
         head-length = t .head-length;
         head-unmarked = t .head-unmarked;

@@ -1,6 +1,6 @@
 -- Any number of corrections of sectors of different number: every order of them that is done gives the same track.
 use mathlib.Core.Path.{_≡_, refl, sym, ap, ap₂, _∙_, subst}
-use Prim.Native.Nat.{ℕ, _≤_}
+use Prim.Native.Nat.{ℕ}
 use mathlib.Core.Bool.{Bool, true, false, _||_}
 use mathlib.Core.List.{List, [], _∷_, _++_, map, map-map, map-id, List·Permᴰ, List·Permᴰ·nil, List·Permᴰ·cons, List·Permᴰ·swap, List·Permᴰ·trans}
 use lib.ListN.{length, take}
@@ -10,6 +10,7 @@ use Rattle.format.specs.Home.{Home, firstCountPlace}
 use Rattle.format.specs.Span.{joined}
 use Rattle.format.specs.Sector.{Sector}
 use Rattle.format.specs.Accept.{Accepted, spansOf, acceptCells, sectorsOf}
+use Rattle.format.specs.GapRule.{GapRule, gapBy}
 use Rattle.format.specs.Correct.{withContent}
 use Rattle.format.specs.Together.{Correction, replacedBy, corrected}
 use Rattle.format.proofs.Base.Judged.{good-inj, then-good}
@@ -44,11 +45,11 @@ unfoldable pub withOwn : List Correction → Sector → Sector
 withOwn [] s = s
 withOwn (x ∷ xs) s = let r = withOwn xs s in pick (named x s) (withContent (x .key) (x .body) s) r
 
-module _ (gap : ℕ → ℕ → ℕ) where
+module _ (rule : GapRule) where
   -- The corrections one after the other, each on the track that the one before it wrote.
   unfoldable pub inTurn : List ℕ → List Correction → Judged (List ℕ)
   inTurn c [] = good c
-  inTurn c (x ∷ xs) = then (corrected gap c x) (λ d. inTurn d xs)
+  inTurn c (x ∷ xs) = then (corrected rule c x) (λ d. inTurn d xs)
 
 any-number : (xs : List Correction) (s r : Sector) → s .number ≡ r .number → namedAny xs s ≡ namedAny xs r
 unfolding namedAny
@@ -121,60 +122,62 @@ own-perm (List·Permᴰ·cons e p) v s =
 own-perm (List·Permᴰ·swap {a = x} {b = y} {l = xs} e f) v s = own-swap x y xs (v .0 .0) s ∙ ap₂ (λ (u w : Correction). withOwn (u ∷ w ∷ xs) s) f e
 own-perm (List·Permᴰ·trans p q) v s = own-perm p v s ∙ own-perm q (apart-perm p v) s
 
-module _ (gap : ℕ → ℕ → ℕ) where
-  relaid-none : (hit : Sector → Bool) → ((s : Sector) → hit s ≡ false) → (gs : List (List ℕ)) (ss : List Sector) → relaid gap hit gs ss ≡ gs
-  unfolding relaid
-  relaid-none hit never [] ss = refl
-  relaid-none hit never (g ∷ gs) [] = refl
-  relaid-none hit never (g ∷ gs) (s ∷ ss) = rw (never s) (ap (λ (ks : List (List ℕ)). g ∷ ks) (relaid-none hit never gs ss))
+relaid-none : (gap : ℕ → ℕ → ℕ) (hit : Sector → Bool) → ((s : Sector) → hit s ≡ false) → (gs : List (List ℕ)) (ss : List Sector) → relaid gap hit gs ss ≡ gs
+unfolding relaid
+relaid-none gap hit never [] ss = refl
+relaid-none gap hit never (g ∷ gs) [] = refl
+relaid-none gap hit never (g ∷ gs) (s ∷ ss) = rw (never s) (ap (λ (ks : List (List ℕ)). g ∷ ks) (relaid-none gap hit never gs ss))
 
-  module _ (least : (k d : ℕ) → 21 ≤ gap k d) where
-    -- Corrections that are done one after the other keep the spans up to the leftmost of their sectors and write afresh from there.
-    pub in-turn-spans : (head : List ℕ) (h : Home) (xs : List Correction) → AllApart xs → Every Bytes xs
-        → (gs : List (List ℕ)) (ss : List Sector) → Track head h gs ss → (d : List ℕ) → inTurn gap (head ++ joined gs) xs ≡ good d
-        → head ++ joined (relaid gap (namedAny xs) gs (map (withOwn xs) ss)) ≡ d
-    unfolding inTurn namedAny
-    in-turn-spans head h [] v b gs ss t d e =
-        ap (λ (ks : List (List ℕ)). head ++ joined ks) (relaid-none (namedAny []) (λ s. refl) gs (map (withOwn []) ss)) ∙ good-inj _ d e
-    in-turn-spans head h (x ∷ xs) v b gs ss t d e =
-        let k = then-good (corrected gap (head ++ joined gs) x) (λ z. inTurn gap z xs) d e in
-        let r : Done gap head h gs ss t x (k .0) = corrected-done gap head h gs ss t x (k .0) (k .1) in
-        let one : List Sector = map (replacedBy x) ss in
-        let ks : List (List ℕ) = relaid gap (named x) gs one in
-        let u : Track head h ks one = done-track gap head h gs ss t least x (k .0) (b .0) r in
-        let again : relaid gap (namedAny xs) ks (map (withOwn xs) one) ≡ relaid gap (namedAny (x ∷ xs)) gs (map (withOwn xs) one) =
-        relaid-again gap (namedAny xs) (withOwn xs) (λ s. any-number xs (withOwn xs s) s (own-number xs s)) (own-other xs)
-        (named x) (λ s. named-number x (withOwn xs s) s (own-number xs s)) gs one (r .enough) in
-        ap (λ (zs : List (List ℕ)). head ++ joined zs) (ap (relaid gap (namedAny (x ∷ xs)) gs) (sym (map-own x xs (v .0) ss)) ∙ sym again)
-        ∙ in-turn-spans head h xs (v .1) (b .1) ks one u d (ap (λ (z : List ℕ). inTurn gap z xs) (r .becomes) ∙ k .2)
+module _ (rule : GapRule) where
+  abbrev gap : ℕ → ℕ → ℕ
+  gap = gapBy rule
 
-    -- Two orders of the same corrections, of pairwise different numbers, that are both done on an accepted track give the same track.
-    pub orders-agree : (c : List ℕ) (a : Accepted) → acceptCells c ≡ good a → (xs ys : List Correction) → List·Permᴰ xs ys → AllApart xs → Every Bytes xs
-        → (d e : List ℕ) → inTurn gap c xs ≡ good d → inTurn gap c ys ≡ good e → d ≡ e
-    orders-agree c a k xs ys p v b d e i j =
-        let h : Home = a .home in
-        let head : List ℕ = take (firstCountPlace (h .place)) c in
-        let gs : List (List ℕ) = spansOf h c in
-        let w = accepted-track c a k in
-        let ss : List Sector = w .0 in
-        let t : Track head h gs ss = w .1 in
-        let same : relaid gap (namedAny xs) gs (map (withOwn xs) ss) ≡ relaid gap (namedAny ys) gs (map (withOwn ys) ss) =
-        λ r. relaid gap (λ s. any-perm p s r) gs (map (λ s. own-perm p v s r) ss) in
-        sym (in-turn-spans head h xs v b gs ss t d (ap (λ (z : List ℕ). inTurn gap z xs) (w .2) ∙ i))
-        ∙ ap (λ (zs : List (List ℕ)). head ++ joined zs) same
-        ∙ in-turn-spans head h ys (apart-perm p v) (every-perm Bytes p b) gs ss t e (ap (λ (z : List ℕ). inTurn gap z ys) (w .2) ∙ j)
+  -- Corrections that are done one after the other keep the spans up to the leftmost of their sectors and write afresh from there.
+  pub in-turn-spans : (head : List ℕ) (h : Home) (xs : List Correction) → AllApart xs → Every Bytes xs
+      → (gs : List (List ℕ)) (ss : List Sector) → Track head h gs ss → (d : List ℕ) → inTurn rule (head ++ joined gs) xs ≡ good d
+      → head ++ joined (relaid gap (namedAny xs) gs (map (withOwn xs) ss)) ≡ d
+  unfolding inTurn namedAny
+  in-turn-spans head h [] v b gs ss t d e =
+      ap (λ (ks : List (List ℕ)). head ++ joined ks) (relaid-none gap (namedAny []) (λ s. refl) gs (map (withOwn []) ss)) ∙ good-inj _ d e
+  in-turn-spans head h (x ∷ xs) v b gs ss t d e =
+      let k = then-good (corrected rule (head ++ joined gs) x) (λ z. inTurn rule z xs) d e in
+      let r : Done rule head h gs ss t x (k .0) = corrected-done rule head h gs ss t x (k .0) (k .1) in
+      let one : List Sector = map (replacedBy x) ss in
+      let ks : List (List ℕ) = relaid gap (named x) gs one in
+      let u : Track head h ks one = done-track rule head h gs ss t x (k .0) (b .0) r in
+      let again : relaid gap (namedAny xs) ks (map (withOwn xs) one) ≡ relaid gap (namedAny (x ∷ xs)) gs (map (withOwn xs) one) =
+      relaid-again gap (namedAny xs) (withOwn xs) (λ s. any-number xs (withOwn xs s) s (own-number xs s)) (own-other xs)
+      (named x) (λ s. named-number x (withOwn xs s) s (own-number xs s)) gs one (r .enough) in
+      ap (λ (zs : List (List ℕ)). head ++ joined zs) (ap (relaid gap (namedAny (x ∷ xs)) gs) (sym (map-own x xs (v .0) ss)) ∙ sym again)
+      ∙ in-turn-spans head h xs (v .1) (b .1) ks one u d (ap (λ (z : List ℕ). inTurn rule z xs) (r .becomes) ∙ k .2)
 
-    -- The track after corrections that are done one after the other is accepted with the same home and with its sectors, each with its own correction if it has one,
-    -- and is as long as before.
-    pub in-turn-accepted : (xs : List Correction) → AllApart xs → Every Bytes xs → (c : List ℕ) (a : Accepted) → acceptCells c ≡ good a → (d : List ℕ) → inTurn gap c xs ≡ good d
-        → (b : Accepted) × (acceptCells d ≡ good b) × (b .home ≡ a .home) × (sectorsOf (b .sectors) ≡ map (withOwn xs) (sectorsOf (a .sectors)))
-        × (length d ≡ length c)
-    unfolding inTurn withOwn
-    in-turn-accepted [] v b c a k d e =
-        let q : c ≡ d = good-inj c d e in
-        (a, ap acceptCells (sym q) ∙ k, refl, sym (map-id (sectorsOf (a .sectors))), ap length (sym q))
-    in-turn-accepted (x ∷ xs) v b c a k d e =
-        let i = then-good (corrected gap c x) (λ z. inTurn gap z xs) d e in
-        let m = correct-accepted gap least c a k x (b .0) (i .0) (i .1) in
-        let n = in-turn-accepted xs (v .1) (b .1) (i .0) (m .0) (m .1) d (i .2) in
-        (n .0, n .1, n .2 ∙ m .2, n .3 ∙ ap (map (withOwn xs)) (m .3) ∙ map-own x xs (v .0) (sectorsOf (a .sectors)), n .4 ∙ m .4)
+  -- Two orders of the same corrections, of pairwise different numbers, that are both done on an accepted track give the same track.
+  pub orders-agree : (c : List ℕ) (a : Accepted) → acceptCells c ≡ good a → (xs ys : List Correction) → List·Permᴰ xs ys → AllApart xs → Every Bytes xs
+      → (d e : List ℕ) → inTurn rule c xs ≡ good d → inTurn rule c ys ≡ good e → d ≡ e
+  orders-agree c a k xs ys p v b d e i j =
+      let h : Home = a .home in
+      let head : List ℕ = take (firstCountPlace (h .place)) c in
+      let gs : List (List ℕ) = spansOf h c in
+      let w = accepted-track c a k in
+      let ss : List Sector = w .0 in
+      let t : Track head h gs ss = w .1 in
+      let same : relaid gap (namedAny xs) gs (map (withOwn xs) ss) ≡ relaid gap (namedAny ys) gs (map (withOwn ys) ss) =
+      λ r. relaid gap (λ s. any-perm p s r) gs (map (λ s. own-perm p v s r) ss) in
+      sym (in-turn-spans head h xs v b gs ss t d (ap (λ (z : List ℕ). inTurn rule z xs) (w .2) ∙ i))
+      ∙ ap (λ (zs : List (List ℕ)). head ++ joined zs) same
+      ∙ in-turn-spans head h ys (apart-perm p v) (every-perm Bytes p b) gs ss t e (ap (λ (z : List ℕ). inTurn rule z ys) (w .2) ∙ j)
+
+  -- The track after corrections that are done one after the other is accepted with the same home and with its sectors, each with its own correction if it has one,
+  -- and is as long as before.
+  pub in-turn-accepted : (xs : List Correction) → AllApart xs → Every Bytes xs → (c : List ℕ) (a : Accepted) → acceptCells c ≡ good a → (d : List ℕ) → inTurn rule c xs ≡ good d
+      → (b : Accepted) × (acceptCells d ≡ good b) × (b .home ≡ a .home) × (sectorsOf (b .sectors) ≡ map (withOwn xs) (sectorsOf (a .sectors)))
+      × (length d ≡ length c)
+  unfolding inTurn withOwn
+  in-turn-accepted [] v b c a k d e =
+      let q : c ≡ d = good-inj c d e in
+      (a, ap acceptCells (sym q) ∙ k, refl, sym (map-id (sectorsOf (a .sectors))), ap length (sym q))
+  in-turn-accepted (x ∷ xs) v b c a k d e =
+      let i = then-good (corrected rule c x) (λ z. inTurn rule z xs) d e in
+      let m = correct-accepted rule c a k x (b .0) (i .0) (i .1) in
+      let n = in-turn-accepted xs (v .1) (b .1) (i .0) (m .0) (m .1) d (i .2) in
+      (n .0, n .1, n .2 ∙ m .2, n .3 ∙ ap (map (withOwn xs)) (m .3) ∙ map-own x xs (v .0) (sectorsOf (a .sectors)), n .4 ∙ m .4)

@@ -21,6 +21,7 @@ use Rattle.format.specs.Candidate.{Candidate}
 use Rattle.format.specs.Find.{candidatePart, findCells, find}
 use Rattle.format.specs.Walk.{nextFrom, step}
 use Rattle.format.specs.PairFind.{Paired, judgeFirstCount, judgeFirst, findOnSecond, findByFlag, pairFind}
+use Rattle.format.specs.GapRule.{GapRule, gapBy}
 use Rattle.format.specs.Written.{writtenBehind, asPair}
 use Rattle.format.specs.Blank.{blank}
 use Rattle.format.specs.Add.{judgeAbsent, addedTo, addCells, add}
@@ -141,18 +142,20 @@ module _ (gap : ℕ → ℕ → ℕ) where
   added-second (x ∷ []) c h i b7 s key body = search (pick-right SecondRight)
   added-second (x ∷ y ∷ xs) c h i b7 s key body = added-second (y ∷ xs) c h (suc i) b7 s key body
 
-  -- Add answers with the second number that goes with the number.
-  pub add-second : (t m : List ℕ) (l k b7 s : ℕ) (key body : List ℕ) → OutcomeRight (add gap t m l k b7 s key body)
-  unfolding add addCells asPair
-  add-second t m l k b7 s key body = search (pick-right SecondRight, then-right SecondRight, cells-second, absent-second, added-second) depth 6
-
   -- The track with the corrected sector.
   rewritten-second : (xs : List Placed) (c key body : List ℕ) → OutcomeRight (rewrittenFrom gap c key body xs)
   unfolding rewrittenFrom writtenBehind
   rewritten-second [] c key body = refl
   rewritten-second (x ∷ xs) c key body = search (pick-right SecondRight)
 
+-- Whatever the rule.
+module _ (rule : GapRule) where
+  -- Add answers with the second number that goes with the number.
+  pub add-second : (t m : List ℕ) (l k b7 s : ℕ) (key body : List ℕ) → OutcomeRight (add rule t m l k b7 s key body)
+  unfolding add addCells asPair
+  add-second t m l k b7 s key body = search (pick-right SecondRight, then-right SecondRight, cells-second, absent-second, added-second (gapBy rule)) depth 6
+
   -- Correct answers with the second number that goes with the number.
-  pub correct-second : (t m : List ℕ) (l k s : ℕ) (key body : List ℕ) → OutcomeRight (correct gap t m l k s key body)
+  pub correct-second : (t m : List ℕ) (l k s : ℕ) (key body : List ℕ) → OutcomeRight (correct rule t m l k s key body)
   unfolding correct correctCells asPair
-  correct-second t m l k s key body = search (pick-right SecondRight, then-right SecondRight, cells-second, rewritten-second)
+  correct-second t m l k s key body = search (pick-right SecondRight, then-right SecondRight, cells-second, rewritten-second (gapBy rule))

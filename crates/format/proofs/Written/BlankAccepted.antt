@@ -17,7 +17,8 @@ use Rattle.format.specs.Block.{leastGap}
 use Rattle.format.specs.Span.{joined, cleanSpans}
 use Rattle.format.specs.Sector.{Sector, contentRight}
 use Rattle.format.specs.Accept.{placedFrom, among, judgeNumbers, Accepted, accept, sectorsOf}
-use Rattle.format.specs.Written.{gapOne, writtenSector, sectorSize, writtenBehind, Pair, asPair}
+use Rattle.format.specs.GapRule.{gapOne}
+use Rattle.format.specs.Written.{writtenSector, sectorSize, writtenBehind, Pair, asPair}
 use Rattle.format.specs.Blank.{namedBy, blankRight, writtenHead, blankSector, blank}
 use Rattle.format.proofs.Spans.Shape.{Valid}
 use Rattle.format.proofs.Base.Judged.{good-inj, require-good}

@@ -28,7 +28,7 @@ gap-after-requires : tie.Need-gap-after-requires
 gap-after-requires c κs = search needs
 
 add-result-2 : tie.Need-add-result-2
-add-result-2 c = let a = c .before .before .before .args in omega (arith, c .before .sector-size .ensures, c .gap-after .ensures, rule-most (asRule (a .rule)) (a .kl) (a .dl), size-most (a .first) (a .kl) (a .dl))
+add-result-2 c = let a = c .before .before .before .args in omega (arith, c .before .sector-size .ensures, c .gap-after .ensures, rule-most (asRule (a .rule)) (c .before .before .before .pre .1 .1) (a .kl) (a .dl), size-most (a .first) (a .kl) (a .dl))
 
 returns-2 : tie.Need-returns-2
 returns-2 c = rw (c .before .before .if1 .left) (ap₂ (λ (n g : ℕ). c .before .before .before .args .at + n + g) (c .before .sector-size .ensures) (c .gap-after .ensures))

@@ -5,7 +5,7 @@ use lib.ListN.{length}
 use borrow.Author.Needs.{needs}
 use borrow.Author.Tests.{not-true, not-false}
 use Rattle.format.proofs.Written.Outcome.{after-refused}
-use Rattle.format.specs.Written.{ruleOne}
+use Rattle.encode.specs.Gap.{asRule}
 use Rattle.writer.proofs.Outcome.{after-same}
 use Rattle.format.specs.Accept.{accept}
 use Rattle.writer.proofs.Judging.{judged-flag, judged-refused, both-lengths, add-lent, add-refused, add-cells}
@@ -22,7 +22,7 @@ returns : tie.Need-returns
 returns c =
     let a = c .before .before .before .before .before .before .before .before .before .args in
     after-refused _ _ _ (a .new-track .now) (a .new-marks .now)
-    (add-lent ruleOne (a .track .now) (a .marks .now) (length (a .new-track .now)) (length (a .new-marks .now)) (a .b7) (a .s) (a .key .now) (a .body .now)
+    (add-lent (asRule (a .rule)) (a .track .now) (a .marks .now) (length (a .new-track .now)) (length (a .new-marks .now)) (a .b7) (a .s) (a .key .now) (a .body .now)
     (sym (c .before .before .both-lent .ensures) ∙ not-true _ (c .before .if1 .taken)))
     (c .lent-wrong .ensures)
 
@@ -57,7 +57,7 @@ returns-2 : tie.Need-returns-2
 returns-2 c =
     let a = c .before .before .before .before .before .before .before .before .before .before .before .before .before .before .before .before .before .before .before .before .args in
     after-same _ _ _ (a .new-track .now) (a .new-marks .now) _ _
-    (add-cells ruleOne (a .track .now) (a .marks .now) (length (a .new-track .now)) (length (a .new-marks .now)) (sym (c .before .before .before .before .before .before .before .before .before .before .before .before .before .both-lent .ensures) ∙ not-false _ (c .before .before .before .before .before .before .before .before .before .before .before .before .if1 .left)) (a .b7) (a .s) (a .key .now) (a .body .now))
+    (add-cells (asRule (a .rule)) (a .track .now) (a .marks .now) (length (a .new-track .now)) (length (a .new-marks .now)) (sym (c .before .before .before .before .before .before .before .before .before .before .before .before .before .both-lent .ensures) ∙ not-false _ (c .before .before .before .before .before .before .before .before .before .before .before .before .if1 .left)) (a .b7) (a .s) (a .key .now) (a .body .now))
     (c .before .before .before .before .add-on .ensures)
 
 returns-3 : tie.Need-returns-3
@@ -65,7 +65,7 @@ returns-3 c =
     let a = c .before .before .before .before .before .before .before .before .before .before .before .before .args in
     let j = rw (c .before .judged2 .given .1) at (c .before .before .before .judge .ensures) in
     after-refused _ _ _ (a .new-track .now) (a .new-marks .now)
-    (add-refused ruleOne (a .track .now) (a .marks .now) (length (a .new-track .now)) (length (a .new-marks .now)) (sym (c .before .before .before .before .before .both-lent .ensures) ∙ not-false _ (c .before .before .before .before .if1 .left)) (a .b7) (a .s) (a .key .now) (a .body .now)
+    (add-refused (asRule (a .rule)) (a .track .now) (a .marks .now) (length (a .new-track .now)) (length (a .new-marks .now)) (sym (c .before .before .before .before .before .both-lent .ensures) ∙ not-false _ (c .before .before .before .before .if1 .left)) (a .b7) (a .s) (a .key .now) (a .body .now)
     _ (judged-refused (accept (a .track .now) (a .marks .now)) _ (j .0)))
     refl
 

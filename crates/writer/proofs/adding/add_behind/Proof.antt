@@ -7,7 +7,7 @@ use mathlib.Core.List.{List, _++_}
 use lib.ListN.{length, replicate}
 use Rattle.format.specs.Lent.{unmarked}
 use Rattle.format.specs.Sector.{Sector}
-use Rattle.format.proofs.Written.Gap.{rule-most}
+use Rattle.format.proofs.Written.Gap.{rule-most, wanted-parts}
 use Rattle.format.specs.Add.{addedFlag, addedSector}
 use Rattle.format.specs.Accept.{lastOf}
 use Rattle.encode.specs.Room.{sectorFrom}
@@ -16,7 +16,7 @@ use Rattle.encode.specs.Gap.{asRule}
 use Rattle.writer.specs.Filled.{filledSpan}
 use Rattle.format.proofs.Written.Outcome.{after-refused, after-good}
 use Rattle.writer.proofs.Outcome.{room-done, room-short}
-use Rattle.writer.proofs.Filled.{content-bounds, size-most}
+use Rattle.writer.proofs.Filled.{wanted-bounds, size-most}
 use Rattle.writer.proofs.Corrected.{readable-remaining, readable-lengths, kept-bytes, kept-marks}
 use Rattle.writer.proofs.Added.{last-read, added-made, add-short, add-done}
 use borrow.Author.Needs.{needs}
@@ -60,18 +60,19 @@ add-to c =
     let r = c .before .before .before .before .before .before .before .before .before .before .pre .0 .flagged .readable in
     let last = c .before .before .before .last-of in
     let v = last-read rule t m (a .start) r (last .result) (last .ensures .0) (last .ensures .1) in
-    omega (arith, c .gap-after .ensures, rule-most rule (last .result .sector .«key_length») (last .result .sector .«data_length»), v .key-fits, v .data-fits, v .end-inside, readable-remaining t m (a .start) r .length-most)
+    let right = wanted-parts rule (a .key .now) (a .body .now) (c .before .before .before .before .before .before .before .before .before .before .pre .1 .0 .1) .0 in
+    omega (arith, c .gap-after .ensures, rule-most rule right (last .result .sector .«key_length») (last .result .sector .«data_length»), v .key-fits, v .data-fits, v .end-inside, readable-remaining t m (a .start) r .length-most)
 
 cast-sector-size : tie.Need-cast-sector-size
 cast-sector-size c =
     let a = c .before .before .before .before .before .before .before .before .before .before .args in
-    let h = content-bounds (a .key .now) (a .body .now) (c .before .before .before .before .before .before .before .before .before .before .pre .1 .0 .1) in
+    let h = wanted-bounds (asRule (a .rule)) (a .key .now) (a .body .now) (c .before .before .before .before .before .before .before .before .before .before .pre .1 .0 .1) in
     omega (arith, h)
 
 cast-sector-size-2 : tie.Need-cast-sector-size-2
 cast-sector-size-2 c =
     let a = c .before .before .before .before .before .before .before .before .before .before .args in
-    let h = content-bounds (a .key .now) (a .body .now) (c .before .before .before .before .before .before .before .before .before .before .pre .1 .0 .1) in
+    let h = wanted-bounds (asRule (a .rule)) (a .key .now) (a .body .now) (c .before .before .before .before .before .before .before .before .before .before .pre .1 .0 .1) in
     omega (arith, h)
 
 sector-size-requires : tie.Need-sector-size-requires
@@ -86,8 +87,9 @@ add-judge-room c =
     let r = c .before .before .before .before .before .before .before .before .before .before .before .pre .0 .flagged .readable in
     let last = c .before .before .before .before .last-of in
     let v = last-read rule t m (a .start) r (last .result) (last .ensures .0) (last .ensures .1) in
-    let h = content-bounds (a .key .now) (a .body .now) (c .before .before .before .before .before .before .before .before .before .before .before .pre .1 .0 .1) in
-    omega (arith, h, c .before .gap-after .ensures, rule-most rule (last .result .sector .«key_length») (last .result .sector .«data_length»), c .sector-size .ensures, size-most false (length (a .key .now)) (length (a .body .now)), v .key-fits, v .data-fits, v .end-inside, readable-remaining t m (a .start) r .length-most)
+    let h = wanted-bounds (asRule (a .rule)) (a .key .now) (a .body .now) (c .before .before .before .before .before .before .before .before .before .before .before .pre .1 .0 .1) in
+    let right = wanted-parts rule (a .key .now) (a .body .now) (c .before .before .before .before .before .before .before .before .before .before .before .pre .1 .0 .1) .0 in
+    omega (arith, h, c .before .gap-after .ensures, rule-most rule right (last .result .sector .«key_length») (last .result .sector .«data_length»), c .sector-size .ensures, size-most false (length (a .key .now)) (length (a .body .now)), v .key-fits, v .data-fits, v .end-inside, readable-remaining t m (a .start) r .length-most)
 
 judge-room-requires : tie.Need-judge-room-requires
 judge-room-requires c κs = let a = c .before .before .before .before .before .before .before .before .before .before .before .args in omega (arith, readable-lengths (a .track .now) (a .marks .now) (a .start) (c .before .before .before .before .before .before .before .before .before .before .before .pre .0 .flagged .readable))
@@ -116,7 +118,7 @@ write-added-requires c κs =
     let size = c .before .before .before .before .before .before .before .before .sector-size in
     let room = room-done (judged .result) (last .result .sector .end + c .before .before .before .before .before .before .before .before .before .gap-after .result + size .result) (length t) (judged .ensures) (c .before .before .before .before .before .if1 .taken) in
     let long = c .before .before .before .before .before .before .before .before .before .before .before .before .before .before .before .before .before .before .before .pre .1 .1 in
-    (content-bounds (a .key .now) (a .body .now) (c .before .before .before .before .before .before .before .before .before .before .before .before .before .before .before .before .before .before .before .pre .1 .0 .1), ((omega arith, omega (arith, room .0, size .ensures)), (k .1, long .0, long .1)))
+    (wanted-bounds (asRule (a .rule)) (a .key .now) (a .body .now) (c .before .before .before .before .before .before .before .before .before .before .before .before .before .before .before .before .before .before .before .pre .1 .0 .1), ((omega arith, omega (arith, room .0, size .ensures)), (k .1, long .0, long .1)))
 
 same-length : tie.Need-same-length
 same-length c = search needs

@@ -21,8 +21,8 @@ returns c =
     let r = c .before .before .before .before .before .before .before .before .pre .0 .readable in
     after-refused _ _ _ (a .out .now) (a .out-marks .now) (add-overflow rule t m (a .start) r (a .b7) (a .s) (a .key .now) (a .body .now) (c .before .if1 .taken)) (c .wanted-wrong .ensures)
 
-content-right-requires : tie.Need-content-right-requires
-content-right-requires c κs = search needs
+wanted-right-requires : tie.Need-wanted-right-requires
+wanted-right-requires c κs = search needs
 
 wanted-wrong-requires-2 : tie.Need-wanted-wrong-requires-2
 wanted-wrong-requires-2 c κs = search needs
@@ -35,7 +35,7 @@ returns-2 c =
     let m = a .marks .now in
     let r = c .before .before .before .before .before .before .before .before .before .before .pre .0 .readable in
     after-refused _ _ _ (a .out .now) (a .out-marks .now)
-    (add-wanted rule t m (a .start) r (a .b7) (a .s) (a .key .now) (a .body .now) (c .before .before .before .if1 .left) (sym (c .before .before .content-right .ensures) ∙ not-true _ (c .before .if2 .taken))) (c .wanted-wrong2 .ensures)
+    (add-wanted rule t m (a .start) r (a .b7) (a .s) (a .key .now) (a .body .now) (c .before .before .before .if1 .left) (sym (c .before .before .wanted-right .ensures) ∙ not-true _ (c .before .if2 .taken))) (c .wanted-wrong2 .ensures)
 
 place-of-requires : tie.Need-place-of-requires
 place-of-requires c κs = search needs
@@ -54,7 +54,7 @@ returns-3 c =
     let q = found .result .place in
     let z = found-at t m (a .start) q (a .s) r (found .ensures .0 (r .accepted .sectors) (readable-steps t m (a .start) r)) (c .before .if3 .taken) in
     after-refused _ _ _ (a .out .now) (a .out-marks .now)
-    (add-repeated rule t m (a .start) r (a .b7) (a .s) (a .key .now) (a .body .now) (c .before .before .before .before .before .before .if1 .left) (sym (c .before .before .before .before .before .content-right .ensures) ∙ not-false _ (c .before .before .before .before .if2 .left)) (z .sector) (z .later) q (z .split) (z .place-is))
+    (add-repeated rule t m (a .start) r (a .b7) (a .s) (a .key .now) (a .body .now) (c .before .before .before .before .before .before .if1 .left) (sym (c .before .before .before .before .before .wanted-right .ensures) ∙ not-false _ (c .before .before .before .before .if2 .left)) (z .sector) (z .later) q (z .split) (z .place-is))
     (c .sector-repeated .ensures)
 
 add-behind-requires : tie.Need-add-behind-requires
@@ -69,7 +69,7 @@ add-behind-requires c κs =
         flagged = c .before .before .before .before .before .before .before .before .before .before .before .before .before .before .pre .0;
         absent = found-none t m (a .start) q (a .s) r (found .ensures .0 (r .accepted .sectors) (readable-steps t m (a .start) r)) (c .before .before .if3 .left);
       },
-      ((c .before .before .before .before .before .before .before .if1 .left, sym (c .before .before .before .before .before .before .content-right .ensures) ∙ not-false _ (c .before .before .before .before .before .if2 .left)), c .before .before .before .before .before .before .before .before .before .before .before .before .before .before .pre .1),
+      ((c .before .before .before .before .before .before .before .if1 .left, sym (c .before .before .before .before .before .before .wanted-right .ensures) ∙ not-false _ (c .before .before .before .before .before .if2 .left)), c .before .before .before .before .before .before .before .before .before .before .before .before .before .before .pre .1),
     )
 
 same-length : tie.Need-same-length
@@ -87,7 +87,7 @@ add-on-spec =
     (tie.spec
     wanted-wrong-requires
     returns
-    content-right-requires
+    wanted-right-requires
     wanted-wrong-requires-2
     returns-2
     place-of-requires

@@ -16,13 +16,12 @@ use Rattle.writer.specs.Remaining.{correctedEnd, correctedCells}
 use Rattle.format.proofs.Written.Outcome.{after-refused, after-good}
 use Rattle.format.proofs.Track.Pairs.{pairOf}
 use Rattle.writer.proofs.Outcome.{room-done, room-short}
-use Rattle.writer.proofs.Filled.{content-bounds}
 use Rattle.writer.proofs.Corrected.{readable-steps, readable-remaining, readable-lengths, found-read, found-at, found-none, kept-bytes, kept-marks, correct-wanted, correct-missing, correct-short, correct-done}
 use Rattle.writer.proofs.correcting.correct_on.Statement.{statement}
 use Rattle.writer.proofs.correcting.correct_on.Tie as tie
 
-content-right-requires : tie.Need-content-right-requires
-content-right-requires c κs = search needs
+wanted-right-requires : tie.Need-wanted-right-requires
+wanted-right-requires c κs = search needs
 
 wanted-wrong-requires : tie.Need-wanted-wrong-requires
 wanted-wrong-requires c κs = search needs
@@ -32,7 +31,7 @@ returns c =
     let a = c .before .before .before .before .before .before .before .before .before .args in
     let rule = asRule (a .rule) in
     after-refused _ _ _ (a .out .now) (a .out-marks .now)
-    (correct-wanted rule (a .track .now) (a .marks .now) (a .start) (c .before .before .before .before .before .before .before .before .before .pre .0) (a .s) (a .key .now) (a .body .now) (sym (c .before .before .content-right .ensures) ∙ not-true _ (c .before .if1 .taken)))
+    (correct-wanted rule (a .track .now) (a .marks .now) (a .start) (c .before .before .before .before .before .before .before .before .before .pre .0) (a .s) (a .key .now) (a .body .now) (sym (c .before .before .wanted-right .ensures) ∙ not-true _ (c .before .if1 .taken)))
     (c .wanted-wrong .ensures)
 
 place-of-requires : tie.Need-place-of-requires
@@ -50,7 +49,7 @@ returns-2 c =
     let r = c .before .before .before .before .before .before .before .before .before .before .before .before .pre .0 in
     let found = c .before .before .before .place-of in
     after-refused _ _ _ (a .out .now) (a .out-marks .now)
-    (correct-missing rule t m (a .start) r (a .s) (a .key .now) (a .body .now) (sym (c .before .before .before .before .before .content-right .ensures) ∙ not-false _ (c .before .before .before .before .if1 .left))
+    (correct-missing rule t m (a .start) r (a .s) (a .key .now) (a .body .now) (sym (c .before .before .before .before .before .wanted-right .ensures) ∙ not-false _ (c .before .before .before .before .if1 .left))
     (found-none t m (a .start) (found .result .place) (a .s) r (found .ensures .0 (r .accepted .sectors) (readable-steps t m (a .start) r)) (c .before .if2 .taken)))
     (c .sector-missing .ensures)
 
@@ -62,7 +61,7 @@ corrected-end-requires c κs =
     let r = c .before .before .before .before .before .before .before .before .before .before .before .pre .0 in
     let found = c .before .before .place-of in (
       found-read t m (a .start) (a .s) r (found .result .place) (found .result .sector) (found .ensures .0 (r .accepted .sectors) (readable-steps t m (a .start) r)) (c .if2 .left) (found .ensures .1),
-      content-bounds (a .key .now) (a .body .now) (sym (c .before .before .before .before .content-right .ensures) ∙ not-false _ (c .before .before .before .if1 .left)),
+      sym (c .before .before .before .before .wanted-right .ensures) ∙ not-false _ (c .before .before .before .if1 .left),
     )
 
 judge-room-requires : tie.Need-judge-room-requires
@@ -84,7 +83,7 @@ write-corrected-requires c κs =
     let room : (y : Placed) (ys : List Placed) → SectorsFrom t m q (y ∷ ys) → correctedEnd rule q (a .key .now) (a .body .now) y ys ≤ length t =
     λ y ys f. omega (arith, end .ensures y ys f, fits .0) in (
       found-read t m (a .start) (a .s) r q (found .result .sector) (found .ensures .0 (r .accepted .sectors) (readable-steps t m (a .start) r)) (c .before .before .before .before .before .before .if2 .left) (found .ensures .1),
-      (room, (content-bounds (a .key .now) (a .body .now) (sym (c .before .before .before .before .before .before .before .before .before .before .content-right .ensures) ∙ not-false _ (c .before .before .before .before .before .before .before .before .before .if1 .left)), (k .1, c .before .before .before .before .before .before .before .before .before .before .before .before .before .before .before .before .before .pre .1 .0, c .before .before .before .before .before .before .before .before .before .before .before .before .before .before .before .before .before .pre .1 .1))),
+      (room, (sym (c .before .before .before .before .before .before .before .before .before .before .wanted-right .ensures) ∙ not-false _ (c .before .before .before .before .before .before .before .before .before .if1 .left), (k .1, c .before .before .before .before .before .before .before .before .before .before .before .before .before .before .before .before .before .pre .1 .0, c .before .before .before .before .before .before .before .before .before .before .before .before .before .before .before .before .before .pre .1 .1))),
     )
 
 same-length : tie.Need-same-length
@@ -113,7 +112,7 @@ returns-3 c =
     let W : ℕ → List ℕ = λ l. correctedCells rule l q (a .key .now) (a .body .now) (z .sector) (z .later) in
     let bytes : unmarked t ≡ true = unmarked-below t (λ i. omega (arith, c .before .before .before .before .before .before .before .before .before .before .before .before .before .before .before .before .before .before .before .before .before .shared-slice-known .given i)) in
     after-good _ _ (pairOf (take q (cells t m) ++ W (length (cells t m)))) (a .out .now) (a .out-marks .now) (wrote .last .1 .1 .1 .0) (wrote .last .1 .1 .1 .1 .0)
-    (correct-done rule t m (a .start) r (a .s) (a .key .now) (a .body .now) (sym (c .before .before .before .before .before .before .before .before .before .before .before .before .before .before .before .content-right .ensures) ∙ not-false _ (c .before .before .before .before .before .before .before .before .before .before .before .before .before .before .if1 .left))
+    (correct-done rule t m (a .start) r (a .s) (a .key .now) (a .body .now) (sym (c .before .before .before .before .before .before .before .before .before .before .before .before .before .before .before .wanted-right .ensures) ∙ not-false _ (c .before .before .before .before .before .before .before .before .before .before .before .before .before .before .if1 .left))
     (z .sector) (z .later) (z .split) q (z .place-is) (omega (arith, c .before .before .before .before .before .before .before .before .before .before .before .if2 .left, u .cells-length)) (omega (arith, fits .0, end, u .cells-length)))
     (fits .1)
     (kept-bytes q t m (W (length t)) (W (length (cells t m))) (wrote .last .1 .1 .1 .0) (k .1) bytes (ap W (sym (u .cells-length))) (wrote .ensures .0 (z .sector) (z .later) (z .steps)))
@@ -135,7 +134,7 @@ returns-4 c =
     let judged = c .before .before .judge-room in
     let fits = room-short (judged .result) (ended .result) (length t) (judged .ensures) (c .if3 .left) in
     after-refused _ _ _ (a .out .now) (a .out-marks .now)
-    (correct-short rule t m (a .start) r (a .s) (a .key .now) (a .body .now) (sym (c .before .before .before .before .before .before .before .before .content-right .ensures) ∙ not-false _ (c .before .before .before .before .before .before .before .if1 .left))
+    (correct-short rule t m (a .start) r (a .s) (a .key .now) (a .body .now) (sym (c .before .before .before .before .before .before .before .before .wanted-right .ensures) ∙ not-false _ (c .before .before .before .before .before .before .before .if1 .left))
     (z .sector) (z .later) (z .split) q (z .place-is) (omega (arith, c .before .before .before .before .if2 .left, u .cells-length)) (omega (arith, fits .0, end, u .cells-length)))
     (fits .1)
 
@@ -143,7 +142,7 @@ pub correct-on-spec : {M : Type 1} → statement M
 correct-on-spec =
     tie.close
     (tie.spec
-    content-right-requires
+    wanted-right-requires
     wanted-wrong-requires
     returns
     place-of-requires

@@ -4,18 +4,24 @@ use Prim.Native.Nat.{ℕ, _+_}
 use native.Mathlib.Omega.{arith}
 use lib.ListN.{length}
 use borrow.Author.Needs.{needs}
-use Rattle.format.proofs.Written.Gap.{rule-most}
+use Rattle.format.proofs.Written.Gap.{rule-most, wanted-parts}
 use Rattle.encode.specs.Gap.{asRule}
-use Rattle.writer.proofs.Filled.{size-most}
+use Rattle.writer.proofs.Filled.{wanted-bounds, size-most}
 use Rattle.writer.proofs.Corrected.{later-remaining, later-steps, end-new}
 use Rattle.writer.proofs.correcting.corrected_end.Statement.{statement}
 use Rattle.writer.proofs.correcting.corrected_end.Tie as tie
 
 cast-kl : tie.Need-cast-kl
-cast-kl c = search needs
+cast-kl c =
+    let a = c .before .before .before .before .args in
+    let h = wanted-bounds (asRule (a .rule)) (a .key .now) (a .body .now) (c .before .before .before .before .pre .1) in
+    omega (arith, h)
 
 cast-dl : tie.Need-cast-dl
-cast-dl c = search needs
+cast-dl c =
+    let a = c .before .before .before .before .args in
+    let h = wanted-bounds (asRule (a .rule)) (a .key .now) (a .body .now) (c .before .before .before .before .pre .1) in
+    omega (arith, h)
 
 opens-first-requires : tie.Need-opens-first-requires
 opens-first-requires c κs = search needs
@@ -27,7 +33,8 @@ add-end : tie.Need-add-end
 add-end c =
     let a = c .before .before .before .before .before .before .args in
     let pre = c .before .before .before .before .before .before .pre in
-    omega (arith, pre .1, pre .0 .inside, pre .0 .remaining .length-most, c .sector-size .ensures, size-most (c .before .opens-first .result) (length (a .key .now)) (length (a .body .now)))
+    let h = wanted-bounds (asRule (a .rule)) (a .key .now) (a .body .now) (pre .1) in
+    omega (arith, h, pre .0 .inside, pre .0 .remaining .length-most, c .sector-size .ensures, size-most (c .before .opens-first .result) (length (a .key .now)) (length (a .body .now)))
 
 gap-after-requires : tie.Need-gap-after-requires
 gap-after-requires c κs = search needs
@@ -36,9 +43,11 @@ end-of-later-requires : tie.Need-end-of-later-requires
 end-of-later-requires c κs =
     let a = c .before .before .before .before .before .before .before .args in
     let pre = c .before .before .before .before .before .before .before .pre in
+    let h = wanted-bounds (asRule (a .rule)) (a .key .now) (a .body .now) (pre .1) in
+    let right = wanted-parts (asRule (a .rule)) (a .key .now) (a .body .now) (pre .1) .0 in
     let w = later-remaining (a .track .now) (a .marks .now) (a .q) (a .x) (pre .0) in (
       w .0,
-      (w .1, omega (arith, pre .1, pre .0 .inside, pre .0 .remaining .length-most, c .before .sector-size .ensures, c .gap-after .ensures, rule-most (asRule (a .rule)) (length (a .key .now)) (length (a .body .now)), size-most (c .before .before .opens-first .result) (length (a .key .now)) (length (a .body .now)))),
+      (w .1, omega (arith, h, pre .0 .inside, pre .0 .remaining .length-most, c .before .sector-size .ensures, c .gap-after .ensures, rule-most (asRule (a .rule)) right (length (a .key .now)) (length (a .body .now)), size-most (c .before .before .opens-first .result) (length (a .key .now)) (length (a .body .now))), right),
     )
 
 returns : tie.Need-returns

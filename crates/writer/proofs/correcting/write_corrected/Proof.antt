@@ -10,6 +10,8 @@ use Rattle.format.specs.Accept.{Placed}
 use Rattle.sectors.specs.From.{SectorsFrom}
 use Rattle.encode.specs.Gap.{asRule}
 use Rattle.writer.specs.Remaining.{RoomFor}
+use Rattle.format.proofs.Written.Gap.{wanted-parts}
+use Rattle.writer.proofs.Filled.{wanted-bounds}
 use Rattle.writer.proofs.Corrected.{first-remaining, later-remaining, later-steps, content-room, content-bytes, content-marks}
 use Rattle.writer.proofs.correcting.write_corrected.Statement.{statement}
 use Rattle.writer.proofs.correcting.write_corrected.Tie as tie
@@ -20,7 +22,9 @@ opens-first-requires c κs = search needs
 span-end-requires : tie.Need-span-end-requires
 span-end-requires c κs =
     let pre = c .before .before .before .before .before .before .before .before .pre in
-    (pre .1 .1 .0, omega (arith, pre .0 .inside, pre .0 .remaining .length-most))
+    let a = c .before .before .before .before .before .before .before .before .args in
+    let rule = asRule (a .rule) in
+    (wanted-bounds rule (a .key .now) (a .body .now) (pre .1 .1 .0), (omega (arith, pre .0 .inside, pre .0 .remaining .length-most), wanted-parts rule (a .key .now) (a .body .now) (pre .1 .1 .0) .0))
 
 put-span-requires : tie.Need-put-span-requires
 put-span-requires c κs =
@@ -35,7 +39,7 @@ put-span-requires c κs =
     let z = first-remaining t m (a .q) (a .x) (pre .0) in
     let r = content-room t m (a .q) (z .sector) (z .later) (z .steps) (a .x) (pre .0 .is-read) rule (first .result) (first .ensures) (a .key .now) (a .body .now)
     (length t) (to .result) (to .ensures) (pre .1 .0 (z .sector) (z .later) (z .steps)) in
-    (pre .1 .1 .0, (r .0, (omega (arith, r .1, long), omega (arith, r .1, long))))
+    (wanted-bounds rule (a .key .now) (a .body .now) (pre .1 .1 .0), (r .0, (omega (arith, r .1, long), omega (arith, r .1, long))))
 
 write-later-requires : tie.Need-write-later-requires
 write-later-requires c κs =
@@ -59,6 +63,7 @@ write-later-requires c κs =
           length-most = pre .0 .remaining .length-most;
         };
         behind = later-remaining t m (a .q) (a .x) (pre .0) .1;
+        right = wanted-parts rule (a .key .now) (a .body .now) (pre .1 .1 .0) .0;
         room = r .2;
       },
       (one .kept .0 ∙ long .1, one .kept .1 .0 ∙ long .2),

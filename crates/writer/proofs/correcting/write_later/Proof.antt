@@ -36,7 +36,7 @@ span-end-requires c κs =
     let i = writing-now rule (a .track .now) (a .marks .now) (a .p) (a .at) (a .out .now) (a .out-marks .now) (o .p) (o .at) (o .out) (o .out-marks) u (o .inv) in
     let whole = u .remaining .cells-length in
     let h = going-within rule (a .track .now) (a .marks .now) (o .p) (o .at) (o .out) (o .out-marks) _ _ i whole in
-    (going-lengths rule (a .track .now) (a .marks .now) (o .p) (o .at) (o .out) (o .out-marks) _ _ i whole (c .before .loop-test .taken) (c .sector-at .result) (c .sector-at .ensures), omega (arith, h, u .remaining .length-most))
+    (going-lengths rule (a .track .now) (a .marks .now) (o .p) (o .at) (o .out) (o .out-marks) _ _ i whole (c .before .loop-test .taken) (c .sector-at .result) (c .sector-at .ensures), (omega (arith, h, u .remaining .length-most), u .right))
 
 add-k-end : tie.Need-add-k-end Inv-loop μ-loop
 add-k-end c =
