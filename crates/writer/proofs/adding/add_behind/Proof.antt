@@ -7,6 +7,7 @@ use mathlib.Core.List.{List, _++_}
 use lib.ListN.{length, replicate}
 use Rattle.format.specs.Lent.{unmarked}
 use Rattle.format.specs.Sector.{Sector}
+use Rattle.format.specs.GapRule.{gapBy}
 use Rattle.format.proofs.Written.Gap.{rule-most, wanted-parts}
 use Rattle.format.specs.Add.{addedFlag, addedSector}
 use Rattle.format.specs.Accept.{lastOf}
@@ -61,7 +62,8 @@ add-to c =
     let last = c .before .before .before .last-of in
     let v = last-read rule t m (a .start) r (last .result) (last .ensures .0) (last .ensures .1) in
     let right = wanted-parts rule (a .key .now) (a .body .now) (c .before .before .before .before .before .before .before .before .before .before .pre .1 .0 .1) .0 in
-    omega (arith, c .gap-after .ensures, rule-most rule right (last .result .sector .«key_length») (last .result .sector .«data_length»), v .key-fits, v .data-fits, v .end-inside, readable-remaining t m (a .start) r .length-most)
+    let by : c .gap-after .result ≡ gapBy rule (last .result .sector .«key_length») (last .result .sector .«data_length») = c .gap-after .ensures in
+    omega (arith, by, rule-most rule right (last .result .sector .«key_length») (last .result .sector .«data_length»), v .key-fits, v .data-fits, v .end-inside, readable-remaining t m (a .start) r .length-most)
 
 cast-sector-size : tie.Need-cast-sector-size
 cast-sector-size c =
