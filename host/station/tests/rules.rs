@@ -377,7 +377,7 @@ fn ranges_of_a_and_b() {
         let near = [0, 1, b / 2, b.wrapping_sub(1), b, b.wrapping_add(1)];
         for a in near.into_iter().chain([1_000, 1_001, 32_768, 65_535]) {
             let note = format!("{a} and {b}");
-            let in_range = b >= 1 && b <= 1_000 && a <= b;
+            let in_range = (1..=1_000).contains(&b) && a <= b;
             let mut w = added_sector(3, 0, 1);
             (w.rule, body.rule) = (two(a, b), two(a, b));
             let added = add_by_both(lent(&with_body), before.clone(), &w, &note);
