@@ -2,7 +2,7 @@
 
 mod common;
 
-use common::by_both::rule_gap;
+use common::sectors::rule_gap;
 use common::{
     answer, any_track, expected, lent, new_body, new_sector, new_track, noise, Tally, Track,
 };

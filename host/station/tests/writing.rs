@@ -3,10 +3,11 @@
 mod common;
 
 use common::by_both::*;
+use common::sectors::*;
 use common::{answer, lent, noise, reads_back, same_buffers, Tally, Track};
 use reference::generate::{
     rule_two, sound, spoiled, wanted_add, wanted_blank, wanted_correct, wanted_correct_by, Built,
-    Plan, PlannedSector, Rng, WantedAdd, WantedBlank, WantedCorrect,
+    Plan, PlannedSector, Rng, WantedBlank, WantedCorrect,
 };
 use reference::GapRule;
 use station::{Answer, Candidate, Lent};
@@ -116,14 +117,6 @@ fn faults_are_handed_on() {
         }
     }
     tally.finish(1_200, &[10, 11]);
-}
-
-/// The same sectors with one key and data replaced.
-fn with_body(mut sectors: Vec<Contents>, w: &WantedCorrect) -> Vec<Contents> {
-    for sector in sectors.iter_mut().filter(|sector| sector.1 == w.s) {
-        (sector.2, sector.3) = (w.key.clone(), w.data.clone());
-    }
-    sectors
 }
 
 /// Whether two corrections by one rule fit together: all from the left one's count on is first-written.
@@ -239,27 +232,6 @@ fn of_ten_bytes(number: u8) -> Built {
 /// Both slices of a built track.
 fn lent_of(built: &Built) -> Lent<'_> {
     (&built.track, &built.marks)
-}
-
-/// A sector without B7 to be added by rule one.
-fn wanted_sector(s: u8, kl: usize, dl: usize) -> WantedAdd {
-    WantedAdd {
-        b7: 0,
-        s,
-        key: vec![0xC2; kl],
-        data: vec![0xD1; dl],
-        rule: GapRule::One,
-    }
-}
-
-/// A key and data for a sector by rule one.
-fn wanted_body(s: u8, kl: usize, dl: usize) -> WantedCorrect {
-    WantedCorrect {
-        s,
-        key: vec![0xC2; kl],
-        data: vec![0xD1; dl],
-        rule: GapRule::One,
-    }
 }
 
 /// All ten bytes are kept, and the gap and the new sector stand behind them.

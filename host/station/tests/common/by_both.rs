@@ -2,16 +2,12 @@
 
 use super::{expected, lent, new_body, new_sector, new_track, noise, same_buffers, Track};
 use reference::generate::{damaged, sound, WantedAdd, WantedBlank, WantedCorrect};
-use reference::GapRule;
-use station::{Answer, Candidate, Lent, Wanted};
+use station::{Answer, Lent};
 
 /// Numbers that Add can give.
 pub const ADD: [u8; 15] = [0, 1, 2, 3, 4, 5, 6, 7, 8, 9, 10, 11, 13, 14, 15];
 /// Numbers that Correct can give.
 pub const CORRECT: [u8; 16] = [0, 1, 2, 3, 4, 5, 6, 7, 8, 9, 10, 11, 12, 13, 14, 15];
-
-/// More sectors than any track holds.
-pub const MANY: usize = 300;
 
 /// Four of five tracks are sound.
 pub fn track_of(seed: u64) -> Track {
@@ -30,21 +26,6 @@ pub fn buffers(seed: u64, length: usize) -> Track {
         37 => noise(seed, 0, length),
         _ => noise(seed, length, length),
     }
-}
-
-/// Flag, number, key and data of a sector.
-pub type Contents = (u8, u8, Vec<u8>, Vec<u8>);
-
-/// The contents of every sector from left to right.
-pub fn contents((track, marks): Lent) -> Vec<Contents> {
-    let contents_of = |step: Result<Candidate, Answer>| {
-        let Candidate { flag, s, .. } = step.expect("a written track can be walked");
-        let found = |wanted| station::find(track, marks, s, wanted).expect("a sound sector");
-        let (key, data) = (found(Wanted::Key), found(Wanted::Data));
-        (flag, s, key.to_vec(), data.to_vec())
-    };
-    let steps = station::candidates(track, marks).take(MANY);
-    steps.map(contents_of).collect()
 }
 
 /// Blank by both, into buffers of equal noise; gives the answer and what was written.
@@ -108,22 +89,6 @@ pub fn correct_by_both(
     assert_eq!(done, expected(same), "{note}");
     same_buffers(&ours, &theirs, note);
     (done, ours)
-}
-
-/// Bytes of a first-written sector from its opening to its block's end.
-pub fn sector_length(first: bool, kl: usize, dl: usize) -> usize {
-    let count = if first { 18 } else { 20 };
-    let key = if kl == 0 { 0 } else { 11 + 9 + kl };
-    let block = if dl == 0 { 7 } else { 9 + dl };
-    count + key + 11 + block
-}
-
-/// The gap that a rule sets behind a block with so many bytes of key and data.
-pub fn rule_gap(rule: GapRule, kl: usize, dl: usize) -> usize {
-    match rule {
-        GapRule::One => 21 + (kl + dl) / 20,
-        GapRule::Two { a, b } => 21 + (kl + dl) * usize::from(a) / usize::from(b),
-    }
 }
 
 /// One correction into fresh noise.

@@ -2,6 +2,7 @@
 #![allow(dead_code)]
 
 pub mod by_both;
+pub mod sectors;
 
 use reference::generate::{
     damaged, jumbled, sound, spoiled, Rng, WantedAdd, WantedBlank, WantedCorrect,
