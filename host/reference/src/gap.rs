@@ -6,10 +6,10 @@ pub const GREATEST_B: u16 = 1_000;
 /// The rule that a writing call lays out its gaps by.
 #[derive(Clone, Copy, PartialEq, Eq, Debug, Default, Hash)]
 pub enum GapRule {
-    /// 21 bytes, and one more for every 20 bytes of key and data.
+    /// 21 bytes, and (KL + DL) / 20 more, rounded down.
     #[default]
     One,
-    /// 21 bytes, and a more for every b bytes of key and data, rounded down.
+    /// 21 bytes, and (KL + DL) × a / b more, rounded down.
     Two { a: u16, b: u16 },
 }
 

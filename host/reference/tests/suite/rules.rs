@@ -291,6 +291,20 @@ fn generated_rules() {
     assert!(met.values().all(|&times| times >= 10), "{met:?}");
 }
 
+/// Some sound tracks have their gaps by rule two: more than 60 bytes past the least gap, and not only before the last sector.
+#[test]
+fn sound_tracks_by_rule_two() {
+    let long = |seed| {
+        let gaps = sound_plan(seed).plan.sectors.into_iter().map(|s| s.gap);
+        let gaps: Vec<usize> = gaps.collect();
+        gaps[..gaps.len().saturating_sub(2)]
+            .iter()
+            .any(|&gap| gap > 81)
+    };
+    let times = (0..2_000).filter(|&seed| long(seed)).count();
+    assert!(times > 50, "{times}");
+}
+
 /// How often each answer was given by rule one, by rule two, and by rule two out of range.
 #[derive(Default)]
 struct Seen([BTreeMap<u8, usize>; 3]);
