@@ -64,7 +64,7 @@ try: examples
 
 # As many seeds as one likes: make soak SOAK=1000000 SEED=5000000
 soak: lib
-	cd host && ISO3561_SOAK=$(SOAK) ISO3561_SEED=$(SEED) $(CARGO) test -p station --test reading --test listing --test writing --test bit_cells
+	cd host && ISO3561_SOAK=$(SOAK) ISO3561_SEED=$(SEED) $(CARGO) test -p station --test reading --test listing --test writing --test rules --test gaps --test bit_cells
 
 # Times beside the reference.
 bench: lib

@@ -62,7 +62,8 @@ static void make(struct pair *pair) {
     expect_done("blank", iso3561_blank(first.track, L, first.marks, L, 100, 7, 0, 0, 0, 0,
                                        key, 0, label, 8));
     expect_done("add sector 1", iso3561_add(first.track, L, first.marks, L, pair->track, L,
-                                            pair->marks, L, 0, 1, key, 3, record, DATA_LENGTH));
+                                            pair->marks, L, 0, 1, key, 3, record, DATA_LENGTH,
+                                            ISO3561_RULE_ONE, 0, 0));
 }
 
 /* The bit cells of the pair; sector 1's opening shows both marked bytes as 55 7F. */

@@ -1,7 +1,7 @@
 /*
- * A small capture station: makes a track with two sectors, reads it, corrects it, tries what a damaged copy
- * and data blocks without data answer, and writes the pair (L track bytes, then L marks) to the file named on
- * the command line.
+ * A small capture station: makes a track with two sectors, reads it, corrects it, tries what a damaged copy,
+ * data blocks without data and gap rule two answer, and writes the pair (L track bytes, then L marks) to the
+ * file named on the command line.
  */
 #include "iso3561.h"
 
@@ -65,7 +65,7 @@ static void add(const struct pair *old, struct pair *new_pair) {
     card(data, draft);
     expect_done("add sector 1",
                 iso3561_add(old->track, L, old->marks, L, new_pair->track, L,
-                            new_pair->marks, L, 0, 1, key, 3, data, 80));
+                            new_pair->marks, L, 0, 1, key, 3, data, 80, ISO3561_RULE_ONE, 0, 0));
     expect_done("accept", iso3561_accept(new_pair->track, L, new_pair->marks, L));
 }
 
@@ -111,10 +111,10 @@ static void correct(const struct pair *old, struct pair *new_pair) {
     card(data, record);
     expect_done("correct sector 1",
                 iso3561_correct(old->track, L, old->marks, L, new_pair->track, L,
-                                new_pair->marks, L, 1, key, 3, data, 80));
+                                new_pair->marks, L, 1, key, 3, data, 80, ISO3561_RULE_ONE, 0, 0));
     expect_done("accept", iso3561_accept(new_pair->track, L, new_pair->marks, L));
     refused = iso3561_correct(old->track, L, old->marks, L, new_pair->track, L,
-                              new_pair->marks, L, 9, key, 3, data, 80);
+                              new_pair->marks, L, 9, key, 3, data, 80, ISO3561_RULE_ONE, 0, 0);
     expect("correct sector 9", iso3561_number(refused), iso3561_place(refused),
            ISO3561_SECTOR_MISSING, 0);
 }
@@ -135,7 +135,7 @@ static void damage(const struct pair *sound) {
                  ISO3561_DATA_WRONG, ISO3561_CLOSING_WRONG, 176);
     expect_fault("correct sector 1 there",
                  iso3561_correct(damaged.track, L, damaged.marks, L, untouched.track, L,
-                                 untouched.marks, L, 1, key, 3, label, 8),
+                                 untouched.marks, L, 1, key, 3, label, 8, ISO3561_RULE_ONE, 0, 0),
                  ISO3561_DATA_WRONG, ISO3561_CLOSING_WRONG, 176);
     if (memcmp(&untouched, &before, sizeof before) != 0) {
         printf("a refusal has written\n");
@@ -146,7 +146,8 @@ static void damage(const struct pair *sound) {
 /* One more sector without key and data. */
 static void add_empty(const char *what, const struct pair *old, struct pair *new_pair) {
     expect_done(what, iso3561_add(old->track, L, old->marks, L, new_pair->track, L,
-                                  new_pair->marks, L, 0, 1, key, 0, label, 0));
+                                  new_pair->marks, L, 0, 1, key, 0, label, 0,
+                                  ISO3561_RULE_ONE, 0, 0));
 }
 
 /* A data block without data may go on behind its 00, here at 90, with check and closing byte. Then it has ten
@@ -169,6 +170,47 @@ static void without_data(void) {
     expect("walk", iso3561_walk_number(result), iso3561_walk_place(result), ISO3561_DONE, 115);
     if (memcmp(first.track, second.track, 94) != 0) {
         printf("the old block was not copied\n");
+        surprises++;
+    }
+}
+
+/* Sector 0 gets 60 bytes of data, which end at 153, by a gap rule. */
+static uint64_t correct_by(const struct pair *old, struct pair *new_pair, uint16_t rule,
+                           uint16_t a, uint16_t b) {
+    static const uint8_t data[60];
+    return iso3561_correct(old->track, L, old->marks, L, new_pair->track, L, new_pair->marks, L,
+                           0, key, 0, data, sizeof data, rule, a, b);
+}
+
+/* Sector 1 must open behind a gap of so many bytes. */
+static void expect_gap(const struct pair *pair, size_t gap) {
+    uint64_t step = iso3561_walk(pair->track, L, pair->marks, L, 56);
+    expect("walk", iso3561_walk_number(step), iso3561_walk_place(step), ISO3561_DONE, 153 + gap);
+}
+
+/* By rule two the gap behind 60 bytes gets one byte for every three, 41 in all; or one for every twenty, which is
+ * rule one. A ratio greater than one is refused, and leaves the lent buffers as they are. */
+static void by_rule_two(const struct pair *old) {
+    static struct pair by_three, by_twenty, by_one, before;
+    uint64_t refused;
+    expect_done("correct sector 0 by rule two, 1 and 3",
+                correct_by(old, &by_three, ISO3561_RULE_TWO, 1, 3));
+    expect_gap(&by_three, 21 + 20);
+    expect_done("accept", iso3561_accept(by_three.track, L, by_three.marks, L));
+    expect_done("correct sector 0 by rule two, 1 and 20",
+                correct_by(old, &by_twenty, ISO3561_RULE_TWO, 1, 20));
+    expect_gap(&by_twenty, 21 + 3);
+    expect_done("correct sector 0 by rule one", correct_by(old, &by_one, ISO3561_RULE_ONE, 0, 0));
+    if (memcmp(&by_twenty, &by_one, sizeof by_one) != 0) {
+        printf("rule two with 1 and 20 is not rule one\n");
+        surprises++;
+    }
+    before = by_three;
+    refused = correct_by(old, &by_three, ISO3561_RULE_TWO, 4, 3);
+    expect("correct sector 0 by rule two, 4 and 3", iso3561_number(refused), iso3561_place(refused),
+           ISO3561_WANTED_WRONG, 0);
+    if (memcmp(&by_three, &before, sizeof before) != 0) {
+        printf("a refusal has written\n");
         surprises++;
     }
 }
@@ -204,5 +246,6 @@ int main(int count, char **words) {
     find(&three, record);
     damage(&three);
     without_data();
+    by_rule_two(&three);
     return save(words[1], &three) && surprises == 0 ? 0 : 1;
 }

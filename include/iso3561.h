@@ -42,7 +42,7 @@ enum iso3561_number {
     ISO3561_DATA_WRONG = 11,         /* the data block's likewise, or it is not 00 for DL = 0 */
     ISO3561_SECTOR_MISSING = 12,     /* no candidate carries S, or none is left to walk to */
     ISO3561_SECTOR_REPEATED = 13,    /* two sectors carry one number, or Add repeats one */
-    ISO3561_WANTED_WRONG = 14,       /* a wanted field is out of rule */
+    ISO3561_WANTED_WRONG = 14,       /* a wanted field is out of rule; the gap rule, its a and its b too */
     ISO3561_ROOM_MISSING = 15,       /* fewer than 13 bytes would be left behind the last block */
     ISO3561_PAIR_WRONG = 16,         /* the two tracks do not agree, or the first is flagged 11 */
     ISO3561_PATTERN_WRONG = 17       /* a byte's bit cells are no legal pattern, or a marked byte is not FF */
@@ -64,6 +64,13 @@ enum iso3561_fault {
 enum iso3561_wanted {
     ISO3561_KEY = 0, /* the key's information */
     ISO3561_DATA = 1 /* the data's information */
+};
+
+/* The gap rule that Add and Correct are told: how many bytes of FF they lay out between a data block and the next
+ * count's opening. KL and DL are the lengths of that sector's key and data; the quotient is rounded down. */
+enum iso3561_rule {
+    ISO3561_RULE_ONE = 1, /* 21 + (KL + DL) / 20; the numbers a and b are not looked at */
+    ISO3561_RULE_TWO = 2  /* 21 + (KL + DL) * a / b, with b from 1 to 1,000 and a from 0 to b */
 };
 
 /* The columns of a row that List fills. Places are in bytes after index; those of key and data are the first byte
@@ -203,25 +210,35 @@ uint64_t iso3561_blank(uint8_t *track, size_t track_length,
 
 /* Add: copies the track with one more sector after the last. The new track and marks, of the
  * same L, are written; all else is read. `b7` is 1 if the record runs on elsewhere.
- * A track that Accept refuses is refused here with the same number, fault and place. */
+ * `rule` is an enum iso3561_rule, with `a` and `b` for rule two: it sets the gap behind the block that was the last.
+ * All before that gap is copied, the earlier gaps too.
+ * A track that Accept refuses is refused here with the same number, fault and place. Then 14 answers for any other
+ * rule and for an a or b out of range, as for b7, key and data, before 13 and 15. */
 uint64_t iso3561_add(const uint8_t *track, size_t track_length,
                      const uint8_t *marks, size_t marks_length,
                      uint8_t *new_track, size_t new_track_length,
                      uint8_t *new_marks, size_t new_marks_length,
                      uint8_t b7, uint8_t sector,
                      const uint8_t *key, size_t key_length,
-                     const uint8_t *data, size_t data_length);
+                     const uint8_t *data, size_t data_length,
+                     uint16_t rule, uint16_t a, uint16_t b);
 
 /* Correct: copies the track with a new key and new data for one sector. The new track and
  * marks, of the same L, are written; all else is read.
- * A track that Accept refuses is refused here with the same number, fault and place. */
+ * `rule`, `a` and `b` are as in Add: they set the gaps from this sector on, but for the last one, which runs to index.
+ * All before this sector's count is copied, the gaps too.
+ * A track that Accept refuses is refused here with the same number, fault and place. Then 14 answers for any other
+ * rule and for an a or b out of range, as for key and data, before 12 and 15.
+ * Two corrections of different sectors, each possible alone, give one track in either order where both use the same
+ * rule, and for rule two the same a and b; with two rules the orders may give two tracks. */
 uint64_t iso3561_correct(const uint8_t *track, size_t track_length,
                          const uint8_t *marks, size_t marks_length,
                          uint8_t *new_track, size_t new_track_length,
                          uint8_t *new_marks, size_t new_marks_length,
                          uint8_t sector,
                          const uint8_t *key, size_t key_length,
-                         const uint8_t *data, size_t data_length);
+                         const uint8_t *data, size_t data_length,
+                         uint16_t rule, uint16_t a, uint16_t b);
 
 /* ==== Bit cells: a refusal writes nothing, answer 0 writes all of what is lent for writing ==== */
 

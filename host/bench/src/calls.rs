@@ -2,7 +2,7 @@
 
 use crate::jobs::Job;
 use reference::{Part, Sector};
-use station::{Fault, NewBody, Wanted, MOST_SECTORS};
+use station::{Fault, GapRule, NewBody, NewSector, Wanted, MOST_SECTORS};
 
 /// What one call gave: number, second number, place, and a part's start and length, or 0 and how many rows were filled.
 pub type Outcome = (u8, u8, usize, usize, usize);
@@ -74,12 +74,51 @@ pub fn find_theirs(job: &mut Job) -> Outcome {
     }
 }
 
-/// Correct by the proved library.
-pub fn correct_ours(job: &mut Job) -> Outcome {
+/// The numbers of the calls by rule two.
+const A: u16 = 1;
+const B: u16 = 3;
+
+/// Rule two for the proved library.
+const TWO: GapRule = GapRule::Two { a: A, b: B };
+/// Rule two for the reference.
+const REFERENCE_TWO: reference::GapRule = reference::GapRule::Two { a: A, b: B };
+
+/// Add by the proved library and a gap rule.
+fn add_ours_by(job: &mut Job, rule: GapRule) -> Outcome {
+    let wanted = NewSector {
+        b7: job.addition.b7,
+        sector: job.addition.s,
+        key: &job.addition.key,
+        data: &job.addition.data,
+        rule,
+    };
+    let (old, new) = ((&job.track[..], &job.marks[..]), &mut job.new);
+    ours(station::add(old, &mut new.track, &mut new.marks, &wanted))
+}
+
+/// Add by the reference and a gap rule.
+fn add_theirs_by(job: &mut Job, rule: reference::GapRule) -> Outcome {
+    let wanted = &job.addition;
+    theirs(reference::add(
+        &job.track,
+        &job.marks,
+        &mut job.new.track,
+        &mut job.new.marks,
+        wanted.b7,
+        wanted.s,
+        &wanted.key,
+        &wanted.data,
+        rule,
+    ))
+}
+
+/// Correct by the proved library and a gap rule.
+fn correct_ours_by(job: &mut Job, rule: GapRule) -> Outcome {
     let wanted = NewBody {
         sector: job.correction.s,
         key: &job.correction.key,
         data: &job.correction.data,
+        rule,
     };
     let (old, new) = ((&job.track[..], &job.marks[..]), &mut job.new);
     ours(station::correct(
@@ -90,8 +129,8 @@ pub fn correct_ours(job: &mut Job) -> Outcome {
     ))
 }
 
-/// Correct by the reference.
-pub fn correct_theirs(job: &mut Job) -> Outcome {
+/// Correct by the reference and a gap rule.
+fn correct_theirs_by(job: &mut Job, rule: reference::GapRule) -> Outcome {
     let wanted = &job.correction;
     theirs(reference::correct(
         &job.track,
@@ -101,7 +140,48 @@ pub fn correct_theirs(job: &mut Job) -> Outcome {
         wanted.s,
         &wanted.key,
         &wanted.data,
+        rule,
     ))
+}
+
+/// Add by the proved library and rule one.
+pub fn add_ours(job: &mut Job) -> Outcome {
+    add_ours_by(job, GapRule::One)
+}
+
+/// Add by the reference and rule one.
+pub fn add_theirs(job: &mut Job) -> Outcome {
+    add_theirs_by(job, reference::GapRule::One)
+}
+
+/// Add by the proved library and rule two.
+pub fn add_two_ours(job: &mut Job) -> Outcome {
+    add_ours_by(job, TWO)
+}
+
+/// Add by the reference and rule two.
+pub fn add_two_theirs(job: &mut Job) -> Outcome {
+    add_theirs_by(job, REFERENCE_TWO)
+}
+
+/// Correct by the proved library and rule one.
+pub fn correct_ours(job: &mut Job) -> Outcome {
+    correct_ours_by(job, GapRule::One)
+}
+
+/// Correct by the reference and rule one.
+pub fn correct_theirs(job: &mut Job) -> Outcome {
+    correct_theirs_by(job, reference::GapRule::One)
+}
+
+/// Correct by the proved library and rule two.
+pub fn correct_two_ours(job: &mut Job) -> Outcome {
+    correct_ours_by(job, TWO)
+}
+
+/// Correct by the reference and rule two.
+pub fn correct_two_theirs(job: &mut Job) -> Outcome {
+    correct_theirs_by(job, REFERENCE_TWO)
 }
 
 /// From cells by the proved library.

@@ -1,6 +1,9 @@
 //! The tracks of a pack, with what is asked of each and the buffers it is written to.
 
-use reference::generate::{bit_cells_of, wanted_correct, Rng, WantedCorrect};
+use reference::generate::{
+    bit_cells_of, wanted_add_by, wanted_correct_by, Rng, WantedAdd, WantedCorrect,
+};
+use reference::GapRule;
 use station::MOST_SECTORS;
 
 /// Cylinders times heads of a pack.
@@ -12,6 +15,7 @@ pub struct Job {
     pub marks: Vec<u8>,
     pub bit_cells: Vec<u8>,
     pub s: u8,
+    pub addition: WantedAdd,
     pub correction: WantedCorrect,
     pub new: Buffers,
 }
@@ -35,7 +39,8 @@ pub fn pack(generator: Generator) -> Vec<Job> {
         Job {
             bit_cells: bit_cells_of(&track, &marks),
             s: some_number(&track, &marks, seed),
-            correction: wanted_correct(seed, &track, &marks),
+            addition: wanted_add_by(GapRule::One, seed, &track, &marks),
+            correction: wanted_correct_by(GapRule::One, seed, &track, &marks),
             new: Buffers::of(track.len()),
             track,
             marks,

@@ -1,4 +1,4 @@
-//! Times of Accept, List, Find, Correct, From cells and To cells over a full pack, beside those of the reference.
+//! Times of Accept, List, Find, Add, Correct, From cells and To cells over a full pack, beside those of the reference.
 //!
 //! Both get the same tracks in the same buffers, as they come and uncleared, and take turns within one run.
 
@@ -18,11 +18,14 @@ const TURNS: usize = 7;
 type Row = (&'static str, Call, Call);
 
 /// The calls on bytes and marks.
-const TRACK_CALLS: [Row; 4] = [
+const TRACK_CALLS: [Row; 7] = [
     ("accept", accept_ours, accept_theirs),
     ("list", list_ours, list_theirs),
     ("find", find_ours, find_theirs),
+    ("add", add_ours, add_theirs),
+    ("add by rule two", add_two_ours, add_two_theirs),
     ("correct", correct_ours, correct_theirs),
+    ("correct by rule two", correct_two_ours, correct_two_theirs),
 ];
 /// The calls for bit cells.
 const CELL_CALLS: [Row; 2] = [
@@ -60,7 +63,7 @@ fn measure(kind: &str, jobs: &mut [Job], (name, ours, theirs): Row) {
     }
     let each = |whole: Duration| whole.as_secs_f64() * 1e6 / PACK as f64;
     println!(
-        "{:<20} {:>9.2} {:>9.2} {:>9.2} {:>9.2} {:>7.2}",
+        "{:<28} {:>9.2} {:>9.2} {:>9.2} {:>9.2} {:>7.2}",
         format!("{name}, {kind}"),
         fast.as_secs_f64() * 1e3,
         other.as_secs_f64() * 1e3,
@@ -82,7 +85,7 @@ fn main() {
         "{PACK} tracks, best of {TURNS} turns; pack in ms, track in us, ratio proved to reference"
     );
     println!(
-        "{:<20} {:>9} {:>9} {:>9} {:>9} {:>7}",
+        "{:<28} {:>9} {:>9} {:>9} {:>9} {:>7}",
         "", "pack", "(ref.)", "track", "(ref.)", "ratio"
     );
     let packs: [(&str, Generator); 2] = [("sound", sound), ("damaged", damaged)];

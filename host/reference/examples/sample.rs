@@ -1,6 +1,6 @@
 //! Writes the sample pair to standard output: cylinder 100, head 7, two sectors, 3,906 bytes and their marks.
 
-use reference::{accept, add, blank, Address, Answer};
+use reference::{accept, add, blank, Address, Answer, GapRule};
 use std::io::Write;
 
 const L: usize = 3_906;
@@ -31,7 +31,15 @@ fn two_sectors() -> (Vec<u8>, Vec<u8>) {
     let (mut track, mut marks) = (vec![0; L], vec![0; L]);
     let data = card();
     let done = add(
-        &old, &old_marks, &mut track, &mut marks, 0, 1, b"KEY", &data,
+        &old,
+        &old_marks,
+        &mut track,
+        &mut marks,
+        0,
+        1,
+        b"KEY",
+        &data,
+        GapRule::One,
     );
     assert_eq!(done, Answer::OK);
     assert_eq!(accept(&track, &marks), Answer::OK);

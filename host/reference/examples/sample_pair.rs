@@ -1,6 +1,6 @@
 //! Writes a defective track and its alternative into the folder that the first argument names: defective.bin and alternative.bin.
 
-use reference::{accept, add, blank, Address, Answer};
+use reference::{accept, add, blank, Address, Answer, GapRule};
 use std::path::Path;
 
 const L: usize = 3_906;
@@ -43,6 +43,7 @@ fn alternative() -> (Vec<u8>, Vec<u8>) {
         1,
         b"PART 17",
         b"PRICE 4.20",
+        GapRule::One,
     );
     assert_eq!(done, Answer::OK);
     assert_eq!(accept(&track, &marks), Answer::OK);

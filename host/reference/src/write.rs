@@ -3,6 +3,7 @@
 use crate::accept::{judge, Judged, Placed};
 use crate::answer::*;
 use crate::check::check;
+use crate::gap::GapRule;
 use crate::layout::*;
 
 /// A track under construction, from index to its present end.
@@ -81,8 +82,8 @@ impl Image {
     }
 
     /// First-written gap between a data block and the next opening.
-    fn put_block_gap(&mut self, kl: usize, dl: usize) {
-        self.fill(0xFF, 21 + (kl + dl) / 20);
+    fn put_block_gap(&mut self, rule: GapRule, kl: usize, dl: usize) {
+        self.fill(0xFF, rule.gap(kl, dl));
     }
 
     /// Answer 15, or the bytes to index and the whole result handed over.
@@ -180,7 +181,7 @@ fn judge_old(
     judge(track, marks)
 }
 
-/// Add: one more sector after the last.
+/// Add: one more sector after the last, behind the gap that the rule sets.
 #[allow(clippy::too_many_arguments)]
 pub fn add(
     track: &[u8],
@@ -191,12 +192,13 @@ pub fn add(
     s: u8,
     key: &[u8],
     data: &[u8],
+    rule: GapRule,
 ) -> Answer {
     let sectors = match judge_old(track, marks, new_track, new_marks) {
         Ok(judged) => judged.sectors,
         Err(answer) => return answer,
     };
-    if b7 > 1 || !sizes_allowed(key, data) {
+    if b7 > 1 || !sizes_allowed(key, data) || !rule.in_range() {
         return Answer::new(WANTED, 0);
     }
     if let Some(present) = sectors.iter().find(|sector| sector.fields.s == s) {
@@ -204,7 +206,7 @@ pub fn add(
     }
     let last = sectors[sectors.len() - 1];
     let mut image = Image::copy_of(&track[..last.blocks.end], &marks[..last.blocks.end]);
-    image.put_block_gap(last.fields.kl.into(), last.fields.dl.into());
+    image.put_block_gap(rule, last.fields.kl.into(), last.fields.dl.into());
     let sector = NewSector {
         flag: added_flag(last.fields.flag, b7),
         address: last.fields.address,
@@ -221,7 +223,8 @@ fn added_flag(last: u8, b7: u8) -> u8 {
     (last ^ 0x80) & 0x80 | b7 << 6 | last & 0x03
 }
 
-/// Correct: one sector gets a new key and new data, and all from its count on is written anew.
+/// Correct: one sector gets a new key and new data, and all from its count on is written anew, its gaps by the rule.
+#[allow(clippy::too_many_arguments)]
 pub fn correct(
     track: &[u8],
     marks: &[u8],
@@ -230,12 +233,13 @@ pub fn correct(
     s: u8,
     key: &[u8],
     data: &[u8],
+    rule: GapRule,
 ) -> Answer {
     let sectors = match judge_old(track, marks, new_track, new_marks) {
         Ok(judged) => judged.sectors,
         Err(answer) => return answer,
     };
-    if !sizes_allowed(key, data) {
+    if !sizes_allowed(key, data) || !rule.in_range() {
         return Answer::new(WANTED, 0);
     }
     let Some(index) = sectors.iter().position(|sector| sector.fields.s == s) else {
@@ -247,7 +251,7 @@ pub fn correct(
     image.put_sector(index == 0, &corrected);
     let mut sizes = (key.len(), data.len());
     for later in &sectors[index + 1..] {
-        image.put_block_gap(sizes.0, sizes.1);
+        image.put_block_gap(rule, sizes.0, sizes.1);
         let same = kept(later, old_key(track, later), old_data(track, later));
         image.put_sector(false, &same);
         sizes = (same.key.len(), same.data.len());

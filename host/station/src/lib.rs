@@ -29,4 +29,4 @@ pub use reading::{
     accept, candidates, find, pair_find, walk_from, Candidates, Lent, Wanted, Which,
 };
 pub use result::{Answer, Candidate, Fault};
-pub use writing::{add, blank, correct, Address, NewBody, NewSector, NewTrack};
+pub use writing::{add, blank, correct, Address, GapRule, NewBody, NewSector, NewTrack};

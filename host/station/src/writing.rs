@@ -35,6 +35,9 @@ extern "C" {
         key_length: usize,
         data: *const u8,
         data_length: usize,
+        rule: u16,
+        a: u16,
+        b: u16,
     ) -> u64;
     fn iso3561_correct(
         track: *const u8,
@@ -50,6 +53,9 @@ extern "C" {
         key_length: usize,
         data: *const u8,
         data_length: usize,
+        rule: u16,
+        a: u16,
+        b: u16,
     ) -> u64;
 }
 
@@ -72,6 +78,33 @@ pub struct NewTrack<'a> {
     pub data: &'a [u8],
 }
 
+/// How long the gap between a data block and the next count's opening is made: at least 21 bytes, and more by KL + DL, the lengths of key and data.
+///
+/// A rule out of its range is refused by the call with 14. Rule two with 1 and 20 gives the very tracks of rule one.
+#[derive(Clone, Copy, PartialEq, Eq, Debug, Default, Hash)]
+pub enum GapRule {
+    /// Rule one: 21 + (KL + DL) / 20 bytes, rounded down.
+    #[default]
+    One,
+    /// Rule two: 21 + (KL + DL) × a / b bytes, rounded down.
+    Two {
+        /// From 0 to b.
+        a: u16,
+        /// From 1 to 1,000.
+        b: u16,
+    },
+}
+
+impl GapRule {
+    /// The rule's number, a and b, as the calls take them; rule one has no a and b.
+    fn numbers(self) -> [u16; 3] {
+        match self {
+            GapRule::One => [1, 0, 0],
+            GapRule::Two { a, b } => [2, a, b],
+        }
+    }
+}
+
 /// A sector to be added; `b7` is 1 if its record runs on elsewhere, else 0.
 #[derive(Clone, Copy, PartialEq, Eq, Debug, Default)]
 pub struct NewSector<'a> {
@@ -79,6 +112,8 @@ pub struct NewSector<'a> {
     pub sector: u8,
     pub key: &'a [u8],
     pub data: &'a [u8],
+    /// Sets the gap behind the block that was the last; the others are copied.
+    pub rule: GapRule,
 }
 
 /// New key and data for the sector with this number.
@@ -87,6 +122,8 @@ pub struct NewBody<'a> {
     pub sector: u8,
     pub key: &'a [u8],
     pub data: &'a [u8],
+    /// Sets the gaps from this sector on but for the last, which runs to index; those before it are copied.
+    pub rule: GapRule,
 }
 
 /// Blank: writes a new track with home and sector 0.
@@ -114,7 +151,29 @@ pub fn blank(track: &mut [u8], marks: &mut [u8], wanted: &NewTrack) -> Answer {
 }
 
 /// Add: writes a copy of a track with one more sector after the last.
+///
+/// ```
+/// use station::{add, blank, list, Answer, GapRule, NewSector, NewTrack};
+///
+/// let (mut old, mut old_marks) = (vec![0; 3_906], vec![0; 3_906]);
+/// let wanted = NewTrack { data: &[0xD1; 60], ..NewTrack::default() };
+/// assert!(blank(&mut old, &mut old_marks, &wanted).is_done());
+///
+/// // The new track, or the refusal, of one more sector by a gap rule.
+/// let by = |rule| {
+///     let (mut track, mut marks) = (vec![0; 3_906], vec![0; 3_906]);
+///     let wanted = NewSector { sector: 1, data: b"ISO 3561", rule, ..NewSector::default() };
+///     add((&old, &old_marks), &mut track, &mut marks, &wanted).done()?;
+///     Ok::<_, Answer>((track, marks))
+/// };
+/// let (track, marks) = by(GapRule::Two { a: 1, b: 3 })?;
+/// assert_eq!(list(&track, &marks)?[0].gap, 21 + 60 / 3);
+/// assert_eq!(by(GapRule::Two { a: 1, b: 20 })?, by(GapRule::One)?);
+/// assert_eq!(by(GapRule::Two { a: 4, b: 3 }).unwrap_err().number, 14);
+/// # Ok::<(), Answer>(())
+/// ```
 pub fn add(old: Lent, new_track: &mut [u8], new_marks: &mut [u8], wanted: &NewSector) -> Answer {
+    let [rule, a, b] = wanted.rule.numbers();
     // SAFETY: all slices are lent whole, and the two written ones are borrowed alone.
     let word = unsafe {
         iso3561_add(
@@ -132,13 +191,42 @@ pub fn add(old: Lent, new_track: &mut [u8], new_marks: &mut [u8], wanted: &NewSe
             wanted.key.len(),
             wanted.data.as_ptr(),
             wanted.data.len(),
+            rule,
+            a,
+            b,
         )
     };
     Word(word).only_answer()
 }
 
 /// Correct: writes a copy of a track with a new key and new data for one sector.
+///
+/// Two corrections of different sectors, each possible alone, give the same track in either order where both use the same rule, rule two with the same a and b.
+///
+/// ```
+/// use station::{add, blank, correct, list, Answer, GapRule, NewBody, NewSector, NewTrack};
+///
+/// let (mut first, mut first_marks) = (vec![0; 3_906], vec![0; 3_906]);
+/// assert!(blank(&mut first, &mut first_marks, &NewTrack::default()).is_done());
+/// let (mut old, mut old_marks) = (vec![0; 3_906], vec![0; 3_906]);
+/// let wanted = NewSector { sector: 1, ..NewSector::default() };
+/// assert!(add((&first, &first_marks), &mut old, &mut old_marks, &wanted).is_done());
+///
+/// // The new track, or the refusal, of a correction of sector 0 by a gap rule.
+/// let by = |rule| {
+///     let (mut track, mut marks) = (vec![0; 3_906], vec![0; 3_906]);
+///     let wanted = NewBody { sector: 0, key: b"KEY", data: &[0xD1; 80], rule };
+///     correct((&old, &old_marks), &mut track, &mut marks, &wanted).done()?;
+///     Ok::<_, Answer>((track, marks))
+/// };
+/// let (track, marks) = by(GapRule::Two { a: 1, b: 1 })?;
+/// assert_eq!(list(&track, &marks)?[0].gap, 21 + 83);
+/// assert_eq!(by(GapRule::Two { a: 1, b: 20 })?, by(GapRule::One)?);
+/// assert_eq!(by(GapRule::Two { a: 0, b: 1_001 }).unwrap_err().number, 14);
+/// # Ok::<(), Answer>(())
+/// ```
 pub fn correct(old: Lent, new_track: &mut [u8], new_marks: &mut [u8], wanted: &NewBody) -> Answer {
+    let [rule, a, b] = wanted.rule.numbers();
     // SAFETY: all slices are lent whole, and the two written ones are borrowed alone.
     let word = unsafe {
         iso3561_correct(
@@ -155,6 +243,9 @@ pub fn correct(old: Lent, new_track: &mut [u8], new_marks: &mut [u8], wanted: &N
             wanted.key.len(),
             wanted.data.as_ptr(),
             wanted.data.len(),
+            rule,
+            a,
+            b,
         )
     };
     Word(word).only_answer()

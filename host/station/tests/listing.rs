@@ -2,6 +2,7 @@
 
 mod common;
 
+use common::sectors::rule_gap;
 use common::{
     answer, any_track, expected, lent, new_body, new_sector, new_track, noise, Tally, Track,
 };
@@ -10,6 +11,7 @@ use reference::generate::{
     WantedBlank, WantedCorrect,
 };
 use reference::layout::find_home;
+use reference::GapRule;
 use station::{Answer, Lent, Sector, MOST_SECTORS};
 use std::collections::BTreeMap;
 
@@ -220,8 +222,9 @@ impl Kinds {
             self.count("ten bytes, 13 to index", empty && ten && last && gap == 13);
             self.count("21 behind", !last && gap == 21);
             self.count("13 to index", last && gap == 13);
-            self.count("more than the rule", !last && gap > rule(row));
-            self.count("less than the rule", !last && gap < rule(row));
+            let rule = gap_by(GapRule::One, row);
+            self.count("more than rule one", !last && gap > rule);
+            self.count("less than rule one", !last && gap < rule);
         }
     }
 
@@ -283,19 +286,19 @@ fn too_few_rows_come_first() {
     tally.finish(4_000, &LIST);
 }
 
-/// The gap that is written behind a block.
-fn rule(row: &Row) -> u16 {
-    21 + (row[KL] + row[DL]) / 20
+/// The gap that is written behind a block by a rule.
+fn gap_by(rule: GapRule, row: &Row) -> u16 {
+    rule_gap(rule, row[KL].into(), row[DL].into()) as u16
 }
 
-/// The row of a sector as it is written with its count's opening at a place: an empty block has seven bytes, and the rule's gap follows.
-fn written_row(place: u16, index: usize, [flag, s, kl, dl]: [u16; 4]) -> Row {
+/// The row of a sector as it is written by a rule with its count's opening at a place: an empty block has seven bytes, and the rule's gap follows.
+fn written_row(rule: GapRule, place: u16, index: usize, [flag, s, kl, dl]: [u16; 4]) -> Row {
     let after_count = place + count_length(index) + 11;
     let key = if kl == 0 { 0 } else { after_count + 6 };
     let data = after_count + key_length(kl) + 6;
     let end = data + if dl == 0 { 1 } else { dl + 3 };
     let mut row = [flag, s, kl, dl, key, data, end, 0];
-    row[GAP] = rule(&row);
+    row[GAP] = gap_by(rule, &row);
     row
 }
 
@@ -315,7 +318,8 @@ fn sizes(key: &[u8], data: &[u8]) -> (u16, u16) {
 fn blank_is_listed(w: &WantedBlank, note: &str) -> Option<Track> {
     let new = blanked(w)?;
     let (kl, dl) = sizes(&w.key, &w.data);
-    let only = written_row(55, 0, [w.flag.into(), w.s.into(), kl, dl]);
+    let fields = [w.flag.into(), w.s.into(), kl, dl];
+    let only = written_row(GapRule::One, 55, 0, fields);
     let wanted = to_index(vec![only], new.0.len());
     same_rows(&rows_of(&new, note), &wanted, note);
     Some(new)
@@ -326,11 +330,11 @@ fn addition_is_listed(old: &Track, w: &WantedAdd, note: &str) -> Option<Track> {
     let new = added(old, w)?;
     let mut wanted = rows_of(old, note);
     let last = wanted.last_mut().expect("a track has sector 0");
-    last[GAP] = rule(last);
+    last[GAP] = gap_by(w.rule, last);
     let (place, flag) = (last[END] + last[GAP], !last[FLAG] & 0x80 | last[FLAG] & 3);
     let (kl, dl) = sizes(&w.key, &w.data);
     let fields = [flag | u16::from(w.b7) << 6, w.s.into(), kl, dl];
-    wanted.push(written_row(place, wanted.len(), fields));
+    wanted.push(written_row(w.rule, place, wanted.len(), fields));
     let wanted = to_index(wanted, new.0.len());
     same_rows(&rows_of(&new, note), &wanted, note);
     Some(new)
@@ -349,7 +353,7 @@ fn correction_is_listed(old: &Track, w: &WantedCorrect, note: &str) -> Option<Tr
             true => sizes(&w.key, &w.data),
             false => (row[KL], row[DL]),
         };
-        let row = written_row(place, index, [row[FLAG], row[S], kl, dl]);
+        let row = written_row(w.rule, place, index, [row[FLAG], row[S], kl, dl]);
         place = row[END] + row[GAP];
         wanted.push(row);
     }
@@ -452,6 +456,7 @@ fn ends_and_gaps_of_the_worked_case() {
         s,
         key: vec![0xC1; kl],
         data: vec![0xD1; dl],
+        rule: GapRule::One,
     };
     for length in [3_815, 3_906, 4_002] {
         let w = WantedBlank {

@@ -2,114 +2,32 @@
 
 mod common;
 
-use common::{
-    answer, expected, lent, new_body, new_sector, new_track, noise, reads_back, same_buffers,
-    Tally, Track,
-};
+use common::by_both::*;
+use common::sectors::*;
+use common::{answer, lent, noise, reads_back, same_buffers, Tally, Track};
 use reference::generate::{
-    damaged, sound, spoiled, wanted_add, wanted_blank, wanted_correct, Built, Plan, PlannedSector,
-    WantedAdd, WantedBlank, WantedCorrect,
+    rule_two, sound, spoiled, wanted_add, wanted_blank, wanted_correct, wanted_correct_by, Built,
+    Plan, PlannedSector, Rng, WantedBlank, WantedCorrect,
 };
-use station::{Answer, Candidate, Lent, Wanted};
+use reference::GapRule;
+use station::{Answer, Candidate, Lent};
 
 /// Numbers that Blank can give.
 const BLANK: [u8; 4] = [0, 1, 14, 15];
-/// Numbers that Add can give.
-const ADD: [u8; 15] = [0, 1, 2, 3, 4, 5, 6, 7, 8, 9, 10, 11, 13, 14, 15];
-/// Numbers that Correct can give.
-const CORRECT: [u8; 16] = [0, 1, 2, 3, 4, 5, 6, 7, 8, 9, 10, 11, 12, 13, 14, 15];
 
-/// More sectors than any track holds.
-const MANY: usize = 300;
+/// How many calls of Add and of Correct are compared, by both rules together.
+const CALLS: u64 = 30_000;
 
-/// Four of five tracks are sound.
-fn track_of(seed: u64) -> Track {
-    match seed % 5 {
-        0 => damaged(seed),
-        _ => sound(seed),
+/// The tally of a rule: of rule one the first, of rule two the second.
+fn tally_of(tallies: &mut [Tally; 2], rule: GapRule) -> &mut Tally {
+    &mut tallies[usize::from(rule != GapRule::One)]
+}
+
+/// Demands of each rule a third of the calls and all the numbers.
+fn finish_both(tallies: [Tally; 2], numbers: &[u8]) {
+    for tally in tallies {
+        tally.finish(CALLS / 3, numbers);
     }
-}
-
-/// Buffers for a copy of a track, at times of another length.
-fn buffers(seed: u64, length: usize) -> Track {
-    match seed % 40 {
-        7 => noise(seed, length + 1, length),
-        17 => noise(seed, length, length - 1),
-        27 => noise(seed, length - 1, length - 1),
-        37 => noise(seed, 0, length),
-        _ => noise(seed, length, length),
-    }
-}
-
-/// Flag, number, key and data of a sector.
-type Contents = (u8, u8, Vec<u8>, Vec<u8>);
-
-/// The contents of every sector from left to right.
-fn contents((track, marks): Lent) -> Vec<Contents> {
-    let contents_of = |step: Result<Candidate, Answer>| {
-        let Candidate { flag, s, .. } = step.expect("a written track can be walked");
-        let found = |wanted| station::find(track, marks, s, wanted).expect("a sound sector");
-        let (key, data) = (found(Wanted::Key), found(Wanted::Data));
-        (flag, s, key.to_vec(), data.to_vec())
-    };
-    let steps = station::candidates(track, marks).take(MANY);
-    steps.map(contents_of).collect()
-}
-
-/// Blank by both, into buffers of equal noise; gives the answer and what was written.
-fn blank_by_both(buffers: Track, w: &WantedBlank, note: &str) -> (Answer, Track) {
-    let (mut ours, mut theirs) = (buffers.clone(), buffers);
-    let done = station::blank(&mut ours.0, &mut ours.1, &new_track(w));
-    let same = reference::blank(
-        &mut theirs.0,
-        &mut theirs.1,
-        w.address,
-        w.flag,
-        w.partner,
-        w.s,
-        &w.key,
-        &w.data,
-    );
-    assert_eq!(done, expected(same), "{note}");
-    same_buffers(&ours, &theirs, note);
-    (done, ours)
-}
-
-/// Add by both, into buffers of equal noise.
-fn add_by_both(old: Lent, buffers: Track, w: &WantedAdd, note: &str) -> (Answer, Track) {
-    let (mut ours, mut theirs) = (buffers.clone(), buffers);
-    let done = station::add(old, &mut ours.0, &mut ours.1, &new_sector(w));
-    let same = reference::add(
-        old.0,
-        old.1,
-        &mut theirs.0,
-        &mut theirs.1,
-        w.b7,
-        w.s,
-        &w.key,
-        &w.data,
-    );
-    assert_eq!(done, expected(same), "{note}");
-    same_buffers(&ours, &theirs, note);
-    (done, ours)
-}
-
-/// Correct by both, into buffers of equal noise.
-fn correct_by_both(old: Lent, buffers: Track, w: &WantedCorrect, note: &str) -> (Answer, Track) {
-    let (mut ours, mut theirs) = (buffers.clone(), buffers);
-    let done = station::correct(old, &mut ours.0, &mut ours.1, &new_body(w));
-    let same = reference::correct(
-        old.0,
-        old.1,
-        &mut theirs.0,
-        &mut theirs.1,
-        w.s,
-        &w.key,
-        &w.data,
-    );
-    assert_eq!(done, expected(same), "{note}");
-    same_buffers(&ours, &theirs, note);
-    (done, ours)
 }
 
 #[test]
@@ -131,14 +49,14 @@ fn blank_as_the_reference() {
 
 #[test]
 fn add_as_the_reference() {
-    let mut tally = Tally::new("add", 20_000);
-    for seed in tally.seeds() {
+    let mut tallies = ["add, rule one", "add, rule two"].map(|name| Tally::new(name, CALLS));
+    for seed in tallies[0].seeds() {
         let note = format!("seed {seed}");
         let old = track_of(seed);
         let w = wanted_add(seed, &old.0, &old.1);
         let before = buffers(seed, old.0.len());
         let (done, written) = add_by_both(lent(&old), before.clone(), &w, &note);
-        tally.count(done);
+        tally_of(&mut tallies, w.rule).count(done);
         if !done.is_done() {
             same_buffers(&written, &before, &note);
             continue;
@@ -150,19 +68,20 @@ fn add_as_the_reference() {
             assert_eq!(new.len(), kept.len() + 1, "{note}");
         }
     }
-    tally.finish(20_000, &ADD);
+    finish_both(tallies, &ADD);
 }
 
 #[test]
 fn correct_as_the_reference() {
-    let mut tally = Tally::new("correct", 20_000);
-    for seed in tally.seeds() {
+    let names = ["correct, rule one", "correct, rule two"];
+    let mut tallies = names.map(|name| Tally::new(name, CALLS));
+    for seed in tallies[0].seeds() {
         let note = format!("seed {seed}");
         let old = track_of(seed);
         let w = wanted_correct(seed, &old.0, &old.1);
         let before = buffers(seed, old.0.len());
         let (done, written) = correct_by_both(lent(&old), before.clone(), &w, &note);
-        tally.count(done);
+        tally_of(&mut tallies, w.rule).count(done);
         if !done.is_done() {
             same_buffers(&written, &before, &note);
             continue;
@@ -173,7 +92,7 @@ fn correct_as_the_reference() {
             assert_eq!(contents(lent(&written)), wanted, "{note}");
         }
     }
-    tally.finish(20_000, &CORRECT);
+    finish_both(tallies, &CORRECT);
 }
 
 /// A track with a wrong block is refused by Add and Correct as by Accept, with the fault, and nothing is written.
@@ -200,23 +119,7 @@ fn faults_are_handed_on() {
     tally.finish(1_200, &[10, 11]);
 }
 
-/// The same sectors with one key and data replaced.
-fn with_body(mut sectors: Vec<Contents>, w: &WantedCorrect) -> Vec<Contents> {
-    for sector in sectors.iter_mut().filter(|sector| sector.1 == w.s) {
-        (sector.2, sector.3) = (w.key.clone(), w.data.clone());
-    }
-    sectors
-}
-
-/// Bytes of a first-written sector from its opening to its block's end.
-fn sector_length(first: bool, kl: usize, dl: usize) -> usize {
-    let count = if first { 18 } else { 20 };
-    let key = if kl == 0 { 0 } else { 11 + 9 + kl };
-    let block = if dl == 0 { 7 } else { 9 + dl };
-    count + key + 11 + block
-}
-
-/// Whether two corrections fit together: all from the left one's count on is first-written.
+/// Whether two corrections by one rule fit together: all from the left one's count on is first-written.
 fn fit_together((track, marks): Lent, a: &WantedCorrect, b: &WantedCorrect) -> bool {
     let sizes = |sector: &Candidate| match [a, b].into_iter().find(|w| w.s == sector.s) {
         Some(w) => (w.key.len(), w.data.len()),
@@ -230,7 +133,7 @@ fn fit_together((track, marks): Lent, a: &WantedCorrect, b: &WantedCorrect) -> b
     for (index, sector) in all.iter().enumerate().skip(left) {
         if index > left {
             let (kl, dl) = sizes(&all[index - 1]);
-            end += 21 + (kl + dl) / 20;
+            end += rule_gap(a.rule, kl, dl);
         }
         let (kl, dl) = sizes(sector);
         end += sector_length(index == 0, kl, dl);
@@ -238,21 +141,23 @@ fn fit_together((track, marks): Lent, a: &WantedCorrect, b: &WantedCorrect) -> b
     end + 13 <= track.len()
 }
 
-/// One correction into fresh noise.
-fn corrected(seed: u64, old: &Track, w: &WantedCorrect, note: &str) -> (Answer, Track) {
-    let length = old.0.len();
-    correct_by_both(lent(old), noise(seed, length, length), w, note)
-}
-
-/// Two corrections, each accepted alone, in both orders: one answer, place, track and marks.
+/// Two corrections by one rule, each accepted alone, in both orders: one answer, place, track and marks.
 #[test]
 fn corrections_in_both_orders() {
-    let mut tally = Tally::new("second of two corrections", 8_000);
-    for seed in tally.seeds() {
+    let names = [
+        "second of two corrections, rule one",
+        "second of two corrections, rule two",
+    ];
+    let mut tallies = names.map(|name| Tally::new(name, 16_000));
+    for seed in tallies[0].seeds() {
         let note = format!("seed {seed}");
         let old = sound(seed);
-        let a = wanted_correct(seed, &old.0, &old.1);
-        let b = wanted_correct(seed ^ 0x0B00_0000, &old.0, &old.1);
+        let rule = match seed % 4 {
+            0 => GapRule::One,
+            _ => rule_two(&mut Rng::new(seed ^ 0x2A71_0000)),
+        };
+        let a = wanted_correct_by(rule, seed, &old.0, &old.1);
+        let b = wanted_correct_by(rule, seed ^ 0x0B00_0000, &old.0, &old.1);
         let (done_a, with_a) = corrected(1, &old, &a, &note);
         let (done_b, with_b) = corrected(1, &old, &b, &note);
         if a.s == b.s || !done_a.is_done() || !done_b.is_done() {
@@ -262,7 +167,7 @@ fn corrections_in_both_orders() {
         let (done_ba, both_ba) = corrected(2, &with_b, &a, &note);
         assert_eq!(done_ab, done_ba, "{note}");
         same_buffers(&both_ab, &both_ba, &note);
-        tally.count(done_ab);
+        tally_of(&mut tallies, rule).count(done_ab);
         if fit_together(lent(&old), &a, &b) {
             assert_eq!(done_ab, Answer::DONE, "{note}");
             reads_back(lent(&both_ab), a.s, &a.key, &a.data, &note);
@@ -271,7 +176,9 @@ fn corrections_in_both_orders() {
             assert_eq!(done_ab, answer(15, 0), "{note}");
         }
     }
-    tally.finish(1_000, &[0, 15]);
+    for (tally, pairs) in tallies.into_iter().zip([1_000, 3_000]) {
+        tally.finish(pairs, &[0, 15]);
+    }
 }
 
 /// The largest data of sector 0 without a key, and one byte more.
@@ -325,16 +232,6 @@ fn of_ten_bytes(number: u8) -> Built {
 /// Both slices of a built track.
 fn lent_of(built: &Built) -> Lent<'_> {
     (&built.track, &built.marks)
-}
-
-/// A sector without B7 to be added.
-fn wanted_sector(s: u8, kl: usize, dl: usize) -> WantedAdd {
-    WantedAdd {
-        b7: 0,
-        s,
-        key: vec![0xC2; kl],
-        data: vec![0xD1; dl],
-    }
 }
 
 /// All ten bytes are kept, and the gap and the new sector stand behind them.
@@ -409,8 +306,7 @@ fn correct_among_blocks_of_ten_bytes() {
     for index in 0..5 {
         for (seed, (kl, dl)) in (0..).zip([(0, 0), (30, 0), (0, 101), (7, 1)]) {
             let note = format!("sector {index}, KL {kl}, DL {dl}");
-            let WantedAdd { s, key, data, .. } = wanted_sector(index as u8, kl, dl);
-            let w = WantedCorrect { s, key, data };
+            let w = wanted_body(index as u8, kl, dl);
             let (done, new) = correct_by_both(lent_of(&old), noise(seed, 3_906, 3_906), &w, &note);
             assert_eq!(done, Answer::DONE, "{note}");
             let place = old.places[index].count;
@@ -422,7 +318,7 @@ fn correct_among_blocks_of_ten_bytes() {
             let mut sizes = [(0, 0), (45, 0), (0, 0), (45, 0), (0, 0)];
             sizes[index] = (kl, dl);
             first_written_from(&new, place, index, &sizes, &note);
-            reads_back(lent(&new), s, &w.key, &w.data, &note);
+            reads_back(lent(&new), w.s, &w.key, &w.data, &note);
         }
     }
 }
@@ -432,10 +328,7 @@ fn correct_among_blocks_of_ten_bytes() {
 fn corrections_in_both_orders_among_blocks_of_ten_bytes() {
     let built = of_ten_bytes(5);
     let old: Track = (built.track, built.marks);
-    let body = |s: u8, (kl, dl): (usize, usize)| {
-        let WantedAdd { s, key, data, .. } = wanted_sector(s, kl, dl);
-        WantedCorrect { s, key, data }
-    };
+    let body = |s, (kl, dl)| wanted_body(s, kl, dl);
     let sizes = [(0, 0), (44, 500), (1, 0), (0, 1)];
     for (a, b) in (0..5).flat_map(|a| (a + 1..5).map(move |b| (a, b))) {
         for (of_a, of_b) in sizes.iter().flat_map(|one| sizes.map(|two| (*one, two))) {

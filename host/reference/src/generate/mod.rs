@@ -1,4 +1,4 @@
-//! Tracks for tests, drawn from a seed: sound ones, damaged ones, ones with a spoiled block, jumbled ones, pairs, wanted fields, and bit cells.
+//! Tracks for tests, drawn from a seed: sound ones, damaged ones, ones with a spoiled block, jumbled ones, pairs, gap rules, wanted fields, and bit cells.
 //!
 //! Sound tracks are laid out here by hand and never by the writing calls.
 
@@ -9,6 +9,7 @@ mod jumble;
 mod pairs;
 mod plan;
 mod rng;
+mod rules;
 mod sound;
 mod wanted;
 
@@ -21,5 +22,9 @@ pub use jumble::jumbled;
 pub use pairs::{pair, Pair, Track};
 pub use plan::{Built, Places, Plan, PlannedSector};
 pub use rng::Rng;
+pub use rules::{any_rule, rule_two, rule_two_out_of_range};
 pub use sound::{sound, sound_plan, Sound};
-pub use wanted::{wanted_add, wanted_blank, wanted_correct, WantedAdd, WantedBlank, WantedCorrect};
+pub use wanted::{
+    wanted_add, wanted_add_by, wanted_blank, wanted_correct, wanted_correct_by, WantedAdd,
+    WantedBlank, WantedCorrect,
+};

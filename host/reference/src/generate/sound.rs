@@ -2,6 +2,8 @@
 
 use super::plan::{Built, Plan, PlannedSector};
 use super::rng::Rng;
+use super::rules::rule_two;
+use crate::gap::GapRule;
 use crate::layout::*;
 
 /// A sound track with what was put in it.
@@ -63,7 +65,8 @@ pub(super) fn sound_with(rng: &mut Rng, flag: u8, address: Address, partner: Add
         named,
         sectors: Vec::new(),
     };
-    plan.sectors = random_sectors(rng, &plan, style);
+    let rule = rng.chance(15).then(|| rule_two(rng));
+    plan.sectors = random_sectors(rng, &plan, style, rule);
     if rng.chance(20) {
         push_last_sector(rng, &mut plan);
     }
@@ -128,8 +131,13 @@ fn random_style(rng: &mut Rng) -> Style {
     }
 }
 
-/// Sectors that fit, with distinct numbers and alternating B8.
-fn random_sectors(rng: &mut Rng, plan: &Plan, style: Style) -> Vec<PlannedSector> {
+/// Sectors that fit, with distinct numbers and alternating B8, their gaps by the rule if there is one.
+fn random_sectors(
+    rng: &mut Rng,
+    plan: &Plan,
+    style: Style,
+    rule: Option<GapRule>,
+) -> Vec<PlannedSector> {
     let wanted = match style {
         Style::Dense => MOST_SECTORS,
         Style::Single => 1,
@@ -160,7 +168,10 @@ fn random_sectors(rng: &mut Rng, plan: &Plan, style: Style) -> Vec<PlannedSector
             key: rng.bytes(kl),
             data: random_data(rng, dl),
             closed: dl == 0 && rng.chance(closed),
-            gap: random_gap(rng, style),
+            gap: match rule {
+                Some(rule) => rule.gap(kl, dl),
+                None => random_gap(rng, style),
+            },
         };
         sector.closed &= sector.blocks_length() <= room;
         place = count_end + sector.blocks_length() + sector.gap;

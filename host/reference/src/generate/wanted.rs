@@ -1,7 +1,9 @@
 //! Wanted fields for Blank, Add and Correct: mostly in rule, at times not, at times too long.
 
 use super::rng::Rng;
+use super::rules::any_rule;
 use super::sound::{other_address, random_address};
+use crate::gap::GapRule;
 use crate::layout::*;
 use crate::read::{list, Sector};
 
@@ -25,6 +27,7 @@ pub struct WantedAdd {
     pub s: u8,
     pub key: Vec<u8>,
     pub data: Vec<u8>,
+    pub rule: GapRule,
 }
 
 /// Arguments of Correct besides the tracks.
@@ -33,6 +36,7 @@ pub struct WantedCorrect {
     pub s: u8,
     pub key: Vec<u8>,
     pub data: Vec<u8>,
+    pub rule: GapRule,
 }
 
 /// Random arguments of Blank.
@@ -123,15 +127,32 @@ fn sector_length(index: usize, kl: usize, dl: usize) -> usize {
     count + key + GAP + data
 }
 
-/// Random arguments of Add for this track.
+/// A gap rule drawn apart from the other arguments, which a given rule leaves as they are but for what fits.
+fn wanted_rule(seed: u64) -> GapRule {
+    any_rule(&mut Rng::new(seed ^ 0x6A90_0B1E))
+}
+
+/// The rule's gap after a listed sector; a rule out of range is taken for rule one.
+fn gap_after(rule: GapRule, kl: usize, dl: usize) -> usize {
+    match rule.in_range() {
+        true => rule.gap(kl, dl),
+        false => GapRule::One.gap(kl, dl),
+    }
+}
+
+/// Random arguments of Add for this track, by any gap rule.
 pub fn wanted_add(seed: u64, track: &[u8], marks: &[u8]) -> WantedAdd {
+    wanted_add_by(wanted_rule(seed), seed, track, marks)
+}
+
+/// Random arguments of Add for this track, by the given gap rule.
+pub fn wanted_add_by(rule: GapRule, seed: u64, track: &[u8], marks: &[u8]) -> WantedAdd {
     let mut rng = Rng::new(seed ^ 0xADD0_0ADD);
     let sectors = sectors_of(track, marks);
     let key = wanted_key(&mut rng);
     let used = sectors.last().map_or(0, |last| {
-        let sizes = usize::from(last.kl) + usize::from(last.dl);
         let but_for_data = sector_length(1, key.len(), 1) - 1;
-        last.end + 21 + sizes / 20 + but_for_data
+        last.end + gap_after(rule, last.kl.into(), last.dl.into()) + but_for_data
     });
     let room = track.len().saturating_sub(GAP_BEFORE_INDEX + used);
     let absent = |s: &u8| sectors.iter().all(|sector| sector.s != *s);
@@ -151,53 +172,64 @@ pub fn wanted_add(seed: u64, track: &[u8], marks: &[u8]) -> WantedAdd {
         s,
         key,
         data: wanted_data(&mut rng, room),
+        rule,
     }
 }
 
-/// Random arguments of Correct for this track.
+/// Random arguments of Correct for this track, by any gap rule.
 pub fn wanted_correct(seed: u64, track: &[u8], marks: &[u8]) -> WantedCorrect {
+    wanted_correct_by(wanted_rule(seed), seed, track, marks)
+}
+
+/// Random arguments of Correct for this track, by the given gap rule.
+pub fn wanted_correct_by(rule: GapRule, seed: u64, track: &[u8], marks: &[u8]) -> WantedCorrect {
     let mut rng = Rng::new(seed ^ 0xC044_EC70);
     let sectors = sectors_of(track, marks);
     if sectors.is_empty() || rng.chance(8) {
         let (s, key) = (rng.byte(), wanted_key(&mut rng));
         let data = wanted_data(&mut rng, 300);
-        return WantedCorrect { s, key, data };
+        return WantedCorrect { s, key, data, rule };
     }
     let index = rng.below(sectors.len());
     let key = wanted_key(&mut rng);
-    let room = correct_room(&sectors, index, key.len(), track.len());
+    let fits = |dl| {
+        let end = corrected_end(rule, &sectors, index, (key.len(), dl));
+        end + GAP_BEFORE_INDEX <= track.len()
+    };
+    let room = greatest(fits);
     WantedCorrect {
         s: sectors[index].s,
         key,
         data: wanted_data(&mut rng, room),
+        rule,
     }
 }
 
-/// Greatest data length with which a corrected sector and those after it still fit.
-fn correct_room(sectors: &[Sector], index: usize, kl: usize, length: usize) -> usize {
+/// Greatest data length that still fits, or 0; every lesser one fits too.
+fn greatest(fits: impl Fn(usize) -> bool) -> usize {
     let (mut room, mut step) = (0, 4_096);
     while step > 0 {
-        let end = corrected_end(sectors, index, kl, room + step);
-        room += if end + GAP_BEFORE_INDEX <= length {
-            step
-        } else {
-            0
-        };
+        room += if fits(room + step) { step } else { 0 };
         step /= 2;
     }
     room
 }
 
-/// Where the last block ends with these lengths in one sector, and first-written form from its count on.
-fn corrected_end(sectors: &[Sector], index: usize, kl: usize, dl: usize) -> usize {
+/// Where the last block ends with these lengths of key and data in one sector, and first-written form from its count on.
+fn corrected_end(
+    rule: GapRule,
+    sectors: &[Sector],
+    index: usize,
+    (kl, dl): (usize, usize),
+) -> usize {
     let old = &sectors[index];
     let opening = old.data_place + 1 - sector_length(index, old.kl.into(), 0);
     let mut end = opening + sector_length(index, kl, dl);
-    let mut sizes = kl + dl;
+    let mut before = (kl, dl);
     for later in &sectors[index + 1..] {
         let (kl, dl) = (usize::from(later.kl), usize::from(later.dl));
-        end += 21 + sizes / 20 + sector_length(1, kl, dl);
-        sizes = kl + dl;
+        end += gap_after(rule, before.0, before.1) + sector_length(1, kl, dl);
+        before = (kl, dl);
     }
     end
 }

@@ -220,8 +220,9 @@ fn damaged_tracks_are_refused_alike() {
         assert_eq!(list(&track, &marks, &mut records), (expected, 0));
         assert_eq!(records, [Sector::default(); 67]);
         let (mut a, mut b) = (vec![0xA5; track.len()], vec![0x5A; track.len()]);
-        let added = add(&track, &marks, &mut a, &mut b, 2, 0, &[0; 256], &[]);
-        let corrected = correct(&track, &marks, &mut a, &mut b, 0, &[0; 256], &[]);
+        let rule = any_rule(&mut Rng::new(seed));
+        let added = add(&track, &marks, &mut a, &mut b, 2, 0, &[0; 256], &[], rule);
+        let corrected = correct(&track, &marks, &mut a, &mut b, 0, &[0; 256], &[], rule);
         assert_eq!((added, corrected), (expected, expected));
         assert!(a.iter().all(|&byte| byte == 0xA5) && b.iter().all(|&mark| mark == 0x5A));
         let paired = pair_find((&first, &first_marks), (&track, &marks), 0, Part::Data);
@@ -407,6 +408,7 @@ pub fn addition(track: &[u8], marks: &[u8], w: &WantedAdd) -> (Answer, Vec<u8>, 
         w.s,
         &w.key,
         &w.data,
+        w.rule,
     );
     left(done, new, new_marks)
 }
@@ -426,7 +428,11 @@ fn wanted_additions() {
         if done.number == 0 {
             let (mut old, records) = (listed(&track, &marks), listed(&new, &new_marks));
             let last = old.last_mut().expect("a track has sector 0");
-            last.gap = 21 + (usize::from(last.kl) + usize::from(last.dl)) / 20;
+            let sizes = usize::from(last.kl) + usize::from(last.dl);
+            last.gap = match w.rule {
+                GapRule::One => 21 + sizes / 20,
+                GapRule::Two { a, b } => 21 + sizes * usize::from(a) / usize::from(b),
+            };
             assert_eq!(records[..old.len()], old);
             assert_eq!(records.len(), old.len() + 1);
             let (_, key) = find(&new, &new_marks, w.s, Part::Key);
@@ -453,7 +459,16 @@ fn contents(track: &[u8], marks: &[u8]) -> Vec<(u8, u8, Vec<u8>, Vec<u8>)> {
 /// What Correct answers and leaves.
 pub fn correction(track: &[u8], marks: &[u8], w: &WantedCorrect) -> (Answer, Vec<u8>, Vec<u8>) {
     let (mut new, mut new_marks) = noise(track.len());
-    let done = correct(track, marks, &mut new, &mut new_marks, w.s, &w.key, &w.data);
+    let done = correct(
+        track,
+        marks,
+        &mut new,
+        &mut new_marks,
+        w.s,
+        &w.key,
+        &w.data,
+        w.rule,
+    );
     left(done, new, new_marks)
 }
 
@@ -482,11 +497,11 @@ fn wanted_corrections() {
     assert!(seen[0] > 400, "{seen:?}");
 }
 
-/// The sectors of two wanted corrections, and the answer to both: the same in either order, with the same track.
+/// The sectors of two wanted corrections by one rule, and the answer to both: the same in either order, with the same track.
 /// None where they name one sector, or one of them is not done alone.
 pub fn both_orders(seed: u64, track: &[u8], marks: &[u8]) -> Option<(u8, u8, Answer)> {
     let a = wanted_correct(seed, track, marks);
-    let b = wanted_correct(seed + 50_000, track, marks);
+    let b = wanted_correct_by(a.rule, seed + 50_000, track, marks);
     let (done_a, track_a, marks_a) = correction(track, marks, &a);
     let (done_b, track_b, marks_b) = correction(track, marks, &b);
     if a.s == b.s || done_a.number != 0 || done_b.number != 0 {

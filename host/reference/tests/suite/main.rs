@@ -11,5 +11,6 @@ mod generated;
 mod generated_empty;
 mod list_walk;
 mod pair;
+mod rules;
 mod worked;
 mod write;

@@ -25,6 +25,7 @@ fn two_sectors() -> (Vec<u8>, Vec<u8>) {
         1,
         &[1, 2, 3],
         &[0xD2; 80],
+        GapRule::One,
     );
     assert_eq!(done, answer(0, 0));
     (longer, longer_marks)
@@ -90,6 +91,7 @@ fn number_5_places() {
         2,
         &[],
         &[7],
+        GapRule::One,
     );
     assert_eq!(done, answer(0, 0));
     assert_eq!(third[290..298], LONG);

@@ -41,7 +41,20 @@ fn blank_with(
     (done, pair)
 }
 
+/// Add by rule one.
 pub fn add_to(built: &Built, b7: u8, s: u8, key: &[u8], data: &[u8]) -> (Answer, Built) {
+    add_by(GapRule::One, built, b7, s, key, data)
+}
+
+/// Add by a rule, into noise that a refusal leaves.
+pub fn add_by(
+    rule: GapRule,
+    built: &Built,
+    b7: u8,
+    s: u8,
+    key: &[u8],
+    data: &[u8],
+) -> (Answer, Built) {
     let mut pair = noise(built.track.len());
     let done = add(
         &built.track,
@@ -52,12 +65,19 @@ pub fn add_to(built: &Built, b7: u8, s: u8, key: &[u8], data: &[u8]) -> (Answer,
         s,
         key,
         data,
+        rule,
     );
     assert_eq!(done.number != 0, is_noise(&pair));
     (done, rebuilt(pair))
 }
 
+/// Correct by rule one.
 pub fn correct_in(built: &Built, s: u8, key: &[u8], data: &[u8]) -> (Answer, Built) {
+    correct_by(GapRule::One, built, s, key, data)
+}
+
+/// Correct by a rule, into noise that a refusal leaves.
+pub fn correct_by(rule: GapRule, built: &Built, s: u8, key: &[u8], data: &[u8]) -> (Answer, Built) {
     let mut pair = noise(built.track.len());
     let done = correct(
         &built.track,
@@ -67,6 +87,7 @@ pub fn correct_in(built: &Built, s: u8, key: &[u8], data: &[u8]) -> (Answer, Bui
         s,
         key,
         data,
+        rule,
     );
     assert_eq!(done.number != 0, is_noise(&pair));
     (done, rebuilt(pair))
@@ -80,12 +101,17 @@ fn rebuilt((track, marks): (Vec<u8>, Vec<u8>)) -> Built {
     }
 }
 
-/// A plan's track with every gap in first-written form; home must stand at 30.
+/// A plan's track with every gap in first-written form by rule one; home must stand at 30.
 pub fn first_written(plan: &Plan) -> Built {
     let mut plan = plan.clone();
     for sector in &mut plan.sectors {
         sector.gap = 21 + (sector.key.len() + sector.data.len()) / 20;
     }
+    with_written_gaps(&plan)
+}
+
+/// A plan's track with first-written contents in its gaps, which are as long as planned.
+pub fn with_written_gaps(plan: &Plan) -> Built {
     let mut nth = 0;
     plan.build(&mut |length| {
         nth += 1;
@@ -250,14 +276,15 @@ fn lengths_of_the_written_pair() {
     for (track, marks) in [(L - 1, L), (L, L - 1), (L + 1, L + 1), (0, 0)] {
         let mut pair = (vec![0xA5; track], vec![0x5A; marks]);
         let (a, b) = (&built.track, &built.marks);
-        let added = add(a, b, &mut pair.0, &mut pair.1, 2, 5, &[], &[]);
+        let one = GapRule::One;
+        let added = add(a, b, &mut pair.0, &mut pair.1, 2, 5, &[], &[], one);
         assert_eq!(added, answer(1, 0));
-        let corrected = correct(a, b, &mut pair.0, &mut pair.1, 99, &[], &[]);
+        let corrected = correct(a, b, &mut pair.0, &mut pair.1, 99, &[], &[], one);
         assert_eq!(corrected, answer(1, 0));
         // Also before any other answer of the old track.
         let mut spoiled = built.track.clone();
         spoiled[30] = 1;
-        let added = add(&spoiled, b, &mut pair.0, &mut pair.1, 0, 9, &[], &[]);
+        let added = add(&spoiled, b, &mut pair.0, &mut pair.1, 0, 9, &[], &[], one);
         assert_eq!(added, answer(1, 0));
         assert!(is_noise(&pair));
     }

@@ -1,10 +1,13 @@
 //! Seeds, tallies, buffers and wanted fields of the comparisons; each test file uses a part.
 #![allow(dead_code)]
 
+pub mod by_both;
+pub mod sectors;
+
 use reference::generate::{
     damaged, jumbled, sound, spoiled, Rng, WantedAdd, WantedBlank, WantedCorrect,
 };
-use station::{Address, Answer, Fault, Lent, NewBody, NewSector, NewTrack, Wanted};
+use station::{Address, Answer, Fault, GapRule, Lent, NewBody, NewSector, NewTrack, Wanted};
 use std::collections::{BTreeMap, BTreeSet};
 use std::io::Write;
 use std::ops::Range;
@@ -193,6 +196,14 @@ pub fn new_track(w: &WantedBlank) -> NewTrack<'_> {
     }
 }
 
+/// The wrapper's form of a gap rule.
+pub fn gap_rule(rule: reference::GapRule) -> GapRule {
+    match rule {
+        reference::GapRule::One => GapRule::One,
+        reference::GapRule::Two { a, b } => GapRule::Two { a, b },
+    }
+}
+
 /// The wrapper's form of a wanted sector.
 pub fn new_sector(w: &WantedAdd) -> NewSector<'_> {
     NewSector {
@@ -200,6 +211,7 @@ pub fn new_sector(w: &WantedAdd) -> NewSector<'_> {
         sector: w.s,
         key: &w.key,
         data: &w.data,
+        rule: gap_rule(w.rule),
     }
 }
 
@@ -209,5 +221,6 @@ pub fn new_body(w: &WantedCorrect) -> NewBody<'_> {
         sector: w.s,
         key: &w.key,
         data: &w.data,
+        rule: gap_rule(w.rule),
     }
 }
