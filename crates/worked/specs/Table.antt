@@ -6,8 +6,7 @@ use mathlib.Core.List.{List, [], _∷_, _++_}
 use lib.ListN.{replicate}
 use lib.Dec.{eqb}
 use Rattle.crc.specs.Check.{checkBytes}
-use Rattle.format.specs.Judged.{good, then, answerOf}
-use Rattle.format.specs.Lent.{cells}
+use Rattle.format.specs.Judged.{answerOf}
 use Rattle.format.specs.Opening.{closing}
 use Rattle.format.specs.Address.{addressBytes}
 use Rattle.format.specs.GapRule.{ruleOne, ruleTwo}

@@ -1,5 +1,4 @@
 -- `iso3561_add` meets its contract: the answer of Add by the rule that the numbers name, packed, and what it writes.
-use mathlib.Core.Path.{sym}
 use Rattle.station.proofs.Wrote.{packed-after}
 use borrow.Author.Needs.{needs}
 use Rattle.station.proofs.writing.iso3561_add.Statement.{statement}

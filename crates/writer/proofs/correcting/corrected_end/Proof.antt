@@ -1,9 +1,10 @@
 -- `corrected_end` meets its contract: the block of the corrected sector, and those behind it.
-use mathlib.Core.Path.{ap}
+use mathlib.Core.Path.{_≡_, ap}
 use Prim.Native.Nat.{ℕ, _+_}
 use native.Mathlib.Omega.{arith}
 use lib.ListN.{length}
 use borrow.Author.Needs.{needs}
+use Rattle.format.specs.GapRule.{gapBy}
 use Rattle.format.proofs.Written.Gap.{rule-most, wanted-parts}
 use Rattle.encode.specs.Gap.{asRule}
 use Rattle.writer.proofs.Filled.{wanted-bounds, size-most}
@@ -45,9 +46,10 @@ end-of-later-requires c κs =
     let pre = c .before .before .before .before .before .before .before .pre in
     let h = wanted-bounds (asRule (a .rule)) (a .key .now) (a .body .now) (pre .1) in
     let right = wanted-parts (asRule (a .rule)) (a .key .now) (a .body .now) (pre .1) .0 in
+    let by : c .gap-after .result ≡ gapBy (asRule (a .rule)) (length (a .key .now)) (length (a .body .now)) = c .gap-after .ensures in
     let w = later-remaining (a .track .now) (a .marks .now) (a .q) (a .x) (pre .0) in (
       w .0,
-      (w .1, omega (arith, h, pre .0 .inside, pre .0 .remaining .length-most, c .before .sector-size .ensures, c .gap-after .ensures, rule-most (asRule (a .rule)) right (length (a .key .now)) (length (a .body .now)), size-most (c .before .before .opens-first .result) (length (a .key .now)) (length (a .body .now))), right),
+      (w .1, omega (arith, h, pre .0 .inside, pre .0 .remaining .length-most, c .before .sector-size .ensures, by, rule-most (asRule (a .rule)) right (length (a .key .now)) (length (a .body .now)), size-most (c .before .before .opens-first .result) (length (a .key .now)) (length (a .body .now))), right),
     )
 
 returns : tie.Need-returns
