@@ -42,7 +42,7 @@ fn gap_one(kl: u8, dl: u16) -> usize
     21 + (kl as usize + dl as usize) / 20
 }
 
-// The gap after a data block by rule two; 21 where b = 0, which no call takes.
+// The gap after a data block by rule two; 21 where b = 0, which is out of range.
 fn gap_two(a: u16, b: u16, kl: u8, dl: u16) -> usize
     ensures { λ r. ⌜ r ≡ gapTwo a b kl dl ⌝ }
 {
@@ -75,7 +75,7 @@ fn ratio_right(a: u16, b: u16) -> bool
     a <= b
 }
 
-// Whether a rule is one that is taken.
+// Whether a rule is in range; rule one always is.
 pub fn rule_right(rule: GapRule) -> bool
     ensures { λ r. ⌜ r ≡ ruleRight (asRule rule) ⌝ }
 {

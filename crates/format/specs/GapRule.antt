@@ -23,11 +23,11 @@ abbrev pub gapBy : GapRule → ℕ → ℕ → ℕ
 gapBy ruleOne = gapOne
 gapBy (ruleTwo a b) = gapTwo a b
 
--- The rules that are taken: with rule two b is from 1 to 1,000 and a from 0 to b.
+-- A rule is in range: rule one always, rule two where b is from 1 to 1,000 and a from 0 to b.
 unfoldable pub ruleRight : GapRule → Bool
 ruleRight ruleOne = true
 ruleRight (ruleTwo a b) = leb 1 b && (leb b 1000 && leb a b)
 
--- What Add and Correct both are told is within its ranges: the rule, the key and the data.
+-- What Add and Correct both are told is in range: the rule, the key and the data.
 unfoldable pub wantedRight : GapRule → List ℕ → List ℕ → Bool
 wantedRight rule key body = ruleRight rule && contentRight key body

@@ -1,4 +1,4 @@
--- Which numbers of a C call name a rule that is taken.
+-- Which numbers of a C call name a rule in range.
 use mathlib.Core.Path.{_≡_, refl}
 use Prim.Native.Nat.{ℕ}
 use mathlib.Core.Bool.{_&&_, _||_}
@@ -17,7 +17,7 @@ pub number-two : (a b : ℕ) → numberedRule 2 a b ≡ ruleTwo a b
 unfolding numberedRule
 number-two a b = refl
 
--- 1 is taken, 2 where a and b are in range, and no other number.
-pub number-taken : (n a b : ℕ) → ruleRight (numberedRule n a b) ≡ (eqb n 1 || (eqb n 2 && ruleRight (ruleTwo a b)))
+-- 1 names one, 2 where a and b are in range, and no other number does.
+pub number-right : (n a b : ℕ) → ruleRight (numberedRule n a b) ≡ (eqb n 1 || (eqb n 2 && ruleRight (ruleTwo a b)))
 unfolding numberedRule ruleRight
-number-taken n a b = cases (eqb n 1) (λ e. rw e) (λ e. rw e (cases (eqb n 2) (λ f. rw f) (λ f. rw f)))
+number-right n a b = cases (eqb n 1) (λ e. rw e) (λ e. rw e (cases (eqb n 2) (λ f. rw f) (λ f. rw f)))

@@ -48,7 +48,7 @@ abbrev pub RoomFor : GapRule → ℕ → ℕ → List Placed → Type 0
 RoomFor rule l at [] = at ≡ l
 RoomFor rule l at (x ∷ xs) = at + reach (gapBy rule) (sectorsOf (x ∷ xs)) ≤ l
 
--- The sectors from place p of the old track on, all behind sector 0, have room from place `at` of the new one on, by a rule that is taken.
+-- The sectors from place p of the old track on, all behind sector 0, have room from place `at` of the new one on, by a rule in range.
 pub record RemainingRoom (rule : GapRule) (t m : List ℕ) (p at : ℕ) : Type 0 where
   pub remaining : Remaining t m p
   pub behind : lastFirstCount < p

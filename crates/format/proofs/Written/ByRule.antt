@@ -1,10 +1,9 @@
--- The rule of the gap in the calls that write: which rules are taken, rules that are the same, and Blank, which has none.
+-- The rule of the gap in the calls that write: 14 for a rule out of range, rules that are the same, and Blank, which has none.
 use mathlib.Core.Path.{_≡_, refl, sym, ap, _∙_}
-use Prim.Native.Nat.{ℕ, _≤_}
+use Prim.Native.Nat.{ℕ}
 use mathlib.Core.Bool.{true, false}
 use mathlib.Core.List.{List, [], _∷_}
 use lib.Dec.{leb}
-use borrow.Author.Tests.{le-leb}
 use Rattle.base.proofs.Tests.{cases}
 use Rattle.format.specs.Answer.{lentWrong, wantedWrong}
 use Rattle.format.specs.Judged.{Judged, good, refused, require}
@@ -21,12 +20,7 @@ use Rattle.format.proofs.Track.Pairs.{accepted-pair}
 use Rattle.format.proofs.Written.Gap.{one-in-twenty}
 use Rattle.format.proofs.Written.OneBehind.{behind-one}
 
--- Rule two is taken where b is from 1 to 1,000 and a from 0 to b.
-pub ratio-taken : (a b : ℕ) → 1 ≤ b → b ≤ 1000 → a ≤ b → ruleRight (ruleTwo a b) ≡ true
-unfolding ruleRight
-ratio-taken a b h k l = rw (le-leb 1 b h, le-leb b 1000 k, le-leb a b l)
-
--- An accepted track and a rule that is not taken: 14, before any other refusal of Add and Correct.
+-- An accepted track and a rule out of range: 14, before any other refusal of Add and Correct.
 module _ (rule : GapRule) (wrong : ruleRight rule ≡ false) (t m : List ℕ) (l k : ℕ) (lent : bothLent t m l k ≡ true) (a : Accepted) (e : accept t m ≡ good a) where
   pub add-rule-wrong : (b7 s : ℕ) (key body : List ℕ) → add rule t m l k b7 s key body ≡ refused wantedWrong
   unfolding add addCells wantedRight asPair
@@ -36,7 +30,7 @@ module _ (rule : GapRule) (wrong : ruleRight rule ≡ false) (t m : List ℕ) (l
   unfolding correct correctCells wantedRight asPair
   correct-rule-wrong s key body = rw (lent, accepted-pair t m a e .1, wrong)
 
--- Two rules that are taken alike and give the same gaps are the same for Add and Correct.
+-- Two rules that are both in range or both out of it, and give the same gaps, are the same for Add and Correct.
 module _ (r s : GapRule) (right : ruleRight r ≡ ruleRight s) (same : (kl dl : ℕ) → gapBy r kl dl ≡ gapBy s kl dl) where
   gaps-same : gapBy r ≡ gapBy s
   gaps-same = λ i kl dl. same kl dl i

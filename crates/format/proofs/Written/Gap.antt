@@ -6,18 +6,12 @@ use native.Mathlib.Omega.{arith}
 use mathlib.Core.Bool.{true, _&&_}
 use mathlib.Core.List.{List}
 use lib.Dec.{leb}
-use borrow.Author.Tests.{leb-true}
+use borrow.Author.Tests.{leb-true, le-leb}
 use Rattle.base.proofs.Tests.{and-both}
 use Rattle.format.specs.Sector.{contentRight}
 use Rattle.format.specs.GapRule.{gapOne, gapTwo, GapRule, ruleOne, ruleTwo, gapBy, ruleRight, wantedRight}
 
--- A gap has at least 21 bytes,
-pub rule-least : (rule : GapRule) (kl dl : ℕ) → 21 ≤ gapBy rule kl dl
-unfolding gapOne gapTwo
-rule-least ruleOne kl dl = omega arith
-rule-least (ruleTwo a b) kl dl = let n : ℕ = (kl + dl) * a / b in omega arith
-
--- The ranges of a and b.
+-- A rule two in range has b from 1 to 1,000 and a from 0 to b,
 pub ratio-right : (a b : ℕ) → ruleRight (ruleTwo a b) ≡ true → (1 ≤ b) × (b ≤ 1000) × (a ≤ b)
 unfolding ruleRight
 ratio-right a b e =
@@ -25,7 +19,18 @@ ratio-right a b e =
     let k = and-both (leb b 1000) (leb a b) (h .1) in
     (leb-true 1 b (h .0), leb-true b 1000 (k .0), leb-true a b (k .1))
 
--- and by a rule that is taken at most 21 and one for each byte of the key and of the data.
+-- and one with such a and b is in range.
+pub right-ratio : (a b : ℕ) → 1 ≤ b → b ≤ 1000 → a ≤ b → ruleRight (ruleTwo a b) ≡ true
+unfolding ruleRight
+right-ratio a b h k l = rw (le-leb 1 b h, le-leb b 1000 k, le-leb a b l)
+
+-- A gap has at least 21 bytes,
+pub rule-least : (rule : GapRule) (kl dl : ℕ) → 21 ≤ gapBy rule kl dl
+unfolding gapOne gapTwo
+rule-least ruleOne kl dl = omega arith
+rule-least (ruleTwo a b) kl dl = let n : ℕ = (kl + dl) * a / b in omega arith
+
+-- and by a rule in range at most 21 and one for each byte of the key and of the data.
 pub rule-most : (rule : GapRule) → ruleRight rule ≡ true → (kl dl : ℕ) → gapBy rule kl dl ≤ 21 + kl + dl
 unfolding gapOne gapTwo
 rule-most ruleOne e kl dl = omega arith
@@ -39,7 +44,7 @@ pub ratio-floor : (a b kl dl : ℕ) → 1 ≤ b → (n : ℕ) × (gapBy (ruleTwo
 unfolding gapTwo
 ratio-floor a b kl dl h = let p : ℕ = (kl + dl) * a in (p / b, refl, div-mul-le-self p b, lt-div-mul-add h)
 
--- A rule, a key and data that are taken are each within the ranges.
+-- What Add and Correct both are told is in range where the rule, and key and data are.
 pub wanted-parts : (rule : GapRule) (key body : List ℕ) → wantedRight rule key body ≡ true → (ruleRight rule ≡ true) × (contentRight key body ≡ true)
 unfolding wantedRight
 wanted-parts rule key body e = and-both (ruleRight rule) (contentRight key body) e
