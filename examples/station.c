@@ -174,7 +174,7 @@ static void without_data(void) {
     }
 }
 
-/* Sector 0 gets 60 bytes of data, which end at 153, by a gap rule. */
+/* Sector 0 gets 60 bytes of data, whose block ends at 153, by a rule of the gap. */
 static uint64_t correct_by(const struct pair *old, struct pair *new_pair, uint16_t rule,
                            uint16_t a, uint16_t b) {
     static const uint8_t data[60];

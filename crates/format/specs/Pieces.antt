@@ -79,7 +79,7 @@ abbrev pub Following : List ℕ → Bool → ℕ → List Listed → Type 0
 Following c first p [] = p ≡ length c
 Following c first p (r ∷ rs) = RecordAt c first (none rs) p r × Following c false (r .end + r .gap) rs
 
--- The gaps behind sectors with the records rs where all of them are written afresh on a track of l bytes: by the rule for KL and DL, behind the last one to index.
+-- The gaps behind sectors with the records rs where all of them are written afresh on a track of l bytes: by a function of KL and DL, behind the last one to index.
 unfoldable pub gapsBy : (ℕ → ℕ → ℕ) → ℕ → List Listed → List ℕ
 gapsBy gap l [] = []
 gapsBy gap l (r ∷ rs) = pick (none rs) (l - r .end) (gap (r .keyLength) (r .dataLength)) ∷ gapsBy gap l rs

@@ -83,7 +83,7 @@ abbrev pub leaves : Judged Pair → List ℕ → List ℕ → After
 leaves (good q) t m = after done (q .track) (q .marks)
 leaves (refused a) t m = after a t m
 
--- What follows takes the rule for the gap after a block, by KL and DL.
+-- What follows takes the gap after a block as a function of KL and DL.
 module _ (gap : ℕ → ℕ → ℕ) where
   -- The length of the gap that follows the sector s.
   unfoldable pub gapAfter : Sector → ℕ

@@ -39,7 +39,7 @@ acceptOf j = then j (λ p. accept (p .track) (p .marks))
 unfoldable pub numbers : Answer → List ℕ
 numbers a = a .number ∷ a .place ∷ []
 
--- Count's opening, key's or else data block's opening, data block's opening, its end, and where the next sector would open.
+-- Count's opening, key's or else data block's opening, data block's opening, its end, and where the next sector would open by rule one.
 unfoldable pub placesIn : Placed → List ℕ
 placesIn x =
     let o = openingLength (x .sector .first) in

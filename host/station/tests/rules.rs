@@ -186,7 +186,7 @@ fn numbers_of_no_rule() {
     corrected.finish(3_000, &CORRECT);
 }
 
-/// Every number but 1 and 2, on a track where both calls are possible.
+/// Every number of a rule, on a track where both calls are possible: 1 and 2 are done, every other is 14.
 #[test]
 fn all_numbers_of_rules() {
     let (old, buffers) = (worked(), noise(3, 3_906, 3_906));

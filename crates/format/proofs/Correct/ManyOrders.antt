@@ -1,4 +1,4 @@
--- Any number of corrections of sectors of different number: every order of them that is done gives the same track.
+-- Any number of corrections of sectors of different number by one rule of the gap: every order of them that is done gives the same track.
 use mathlib.Core.Path.{_≡_, refl, sym, ap, ap₂, _∙_, subst}
 use Prim.Native.Nat.{ℕ}
 use mathlib.Core.Bool.{Bool, true, false, _||_}
@@ -151,7 +151,7 @@ module _ (rule : GapRule) where
       ap (λ (zs : List (List ℕ)). head ++ joined zs) (ap (relaid gap (namedAny (x ∷ xs)) gs) (sym (map-own x xs (v .0) ss)) ∙ sym again)
       ∙ in-turn-spans head h xs (v .1) (b .1) ks one u d (ap (λ (z : List ℕ). inTurn rule z xs) (r .becomes) ∙ k .2)
 
-  -- Two orders of the same corrections, of pairwise different numbers, that are both done on an accepted track give the same track.
+  -- Two orders of the same corrections by one rule of the gap, of pairwise different numbers, that are both done on an accepted track give the same track.
   pub orders-agree : (c : List ℕ) (a : Accepted) → acceptCells c ≡ good a → (xs ys : List Correction) → List·Permᴰ xs ys → AllApart xs → Every Bytes xs
       → (d e : List ℕ) → inTurn rule c xs ≡ good d → inTurn rule c ys ≡ good e → d ≡ e
   orders-agree c a k xs ys p v b d e i j =

@@ -1,4 +1,4 @@
--- Two corrections of sectors of different number: in either order the same answer and the same track.
+-- Two corrections of sectors of different number by one rule of the gap: in either order the same answer and the same track.
 use mathlib.Core.Path.{_≡_, refl, sym, ap, ap₂, _∙_}
 use Prim.Native.Nat.{ℕ}
 use mathlib.Core.Bool.{Bool, true}

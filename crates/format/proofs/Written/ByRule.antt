@@ -20,7 +20,7 @@ use Rattle.format.proofs.Track.Pairs.{accepted-pair}
 use Rattle.format.proofs.Written.Gap.{one-in-twenty}
 use Rattle.format.proofs.Written.OneBehind.{behind-one}
 
--- An accepted track and a rule out of range: 14, before any other refusal of Add and Correct.
+-- Both pairs lent within the rule, an accepted track and a rule out of range: 14, before 13, 12 and 15.
 module _ (rule : GapRule) (wrong : ruleRight rule ≡ false) (t m : List ℕ) (l k : ℕ) (lent : bothLent t m l k ≡ true) (a : Accepted) (e : accept t m ≡ good a) where
   pub add-rule-wrong : (b7 s : ℕ) (key body : List ℕ) → add rule t m l k b7 s key body ≡ refused wantedWrong
   unfolding add addCells wantedRight asPair

@@ -44,7 +44,7 @@ pub ratio-floor : (a b kl dl : ℕ) → 1 ≤ b → (n : ℕ) × (gapBy (ruleTwo
 unfolding gapTwo
 ratio-floor a b kl dl h = let p : ℕ = (kl + dl) * a in (p / b, refl, div-mul-le-self p b, lt-div-mul-add h)
 
--- What Add and Correct both are told is in range where the rule, and key and data are.
+-- Where what Add and Correct both are told is in range, the rule is, and key and data are.
 pub wanted-parts : (rule : GapRule) (key body : List ℕ) → wantedRight rule key body ≡ true → (ruleRight rule ≡ true) × (contentRight key body ≡ true)
 unfolding wantedRight
 wanted-parts rule key body e = and-both (ruleRight rule) (contentRight key body) e
