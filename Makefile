@@ -37,9 +37,10 @@ host-test: prove
 	$(MAKE) try
 	cd host && $(CARGO) test --quiet
 
-# The proved library as an archive for C and Rust.
+# The proved library as an archive for C and Rust, and the check alone as another.
 lib:
 	rt staticlib station
+	rt staticlib crc_ffi
 
 # The C programs.
 examples: lib
@@ -64,7 +65,7 @@ try: examples
 
 # As many seeds as one likes: make soak SOAK=1000000 SEED=5000000
 soak: lib
-	cd host && ISO3561_SOAK=$(SOAK) ISO3561_SEED=$(SEED) $(CARGO) test -p station --test reading --test listing --test writing --test rules --test gaps --test bit_cells
+	cd host && ISO3561_SOAK=$(SOAK) ISO3561_SEED=$(SEED) $(CARGO) test -p station -p crc --test reading --test listing --test writing --test rules --test gaps --test bit_cells --test check
 
 # Times beside the reference.
 bench: lib

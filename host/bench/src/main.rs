@@ -1,8 +1,9 @@
-//! Times of Accept, List, Find, Add, Correct, From cells and To cells over a full pack, beside those of the reference.
+//! Times of Accept, List, Find, Add, Correct, From cells and To cells over a full pack, and of the check alone, beside those of the reference.
 //!
 //! Both get the same tracks in the same buffers, as they come and uncleared, and take turns within one run.
 
 mod calls;
+mod checks;
 mod jobs;
 
 use calls::*;
@@ -96,4 +97,5 @@ fn main() {
     measure_all("sound", &mut jobs, &CELL_CALLS);
     spoil_cells(&mut jobs);
     measure_all("damaged", &mut jobs, &CELL_CALLS);
+    checks::measure_all();
 }
