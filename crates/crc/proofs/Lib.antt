@@ -9,4 +9,5 @@ pub mod Division
 pub mod Shift
 pub mod Halves
 pub mod Check
+pub mod Before
 pub mod Agreement

@@ -2,17 +2,15 @@
 use mathlib.Core.Path.{_≡_, refl, sym, ap, ap₂, _∙_, subst}
 use Prim.Native.Nat.{ℕ, zero, suc, _+_, _*_, _/_, _%_, _^_, _≤_, _<_}
 use native.Mathlib.Omega.{arith}
-use native.Mathlib.Numerals.{one-add, add-one}
+use native.Mathlib.Numerals.{one-add}
 use native.Mathlib.Nat.{zero-add, mul-comm, pow-suc, mod-lt, mod-one, div-lt-iff-lt-mul, div-add-mod', mod-eq-of-lt}
 use mathlib.Core.List.{List, _++_}
 use lib.Dec.{lit<}
 use lib.Bits.{bitXor, xor-block, xor-lt}
-use lib.ListN.{length, getD, drop, drop-of-length-le}
-use lib.Seq.{drop-cons}
 use lib.Pow.{pow-pos, mod-pow-add}
 use lib.Arith.{digits-lt, lt-one}
 use borrow.Author.Tests.{lt-ltb, le-ltb}
-use Rattle.crc.specs.Check.{digits, coefficients, divisor, bringDown, remainder}
+use Rattle.crc.specs.Check.{digits, divisor, bringDown, remainder}
 
 -- A remainder with no term in x^15 is shifted.
 shifted : (t b : ℕ) → t < 32768 → b < 2 → bringDown t b ≡ t * 2 + b
@@ -97,15 +95,3 @@ pub bring-byte : (h l b : ℕ) (cs : List ℕ) → h < 256 → l < 256 → b < 2
     → remainder (h * 256 + l) (digits 8 b ++ cs) ≡ remainder (l * 256 + bitXor h b) cs
 bring-byte h l b cs hh hl hb =
     bring-digits 8 256 l h b cs refl hh hl ∙ ap (λ (z : ℕ). remainder (l * 256 + bitXor h z) cs) (mod-eq-of-lt hb)
-
--- The byte at place i of s, brought down: what is left starts at the next place.
-pub bring-at : (s : List ℕ) (i h l : ℕ) → i < length s → h < 256 → l < 256 → getD s i 0 < 256
-    → remainder (h * 256 + l) (coefficients (drop i s)) ≡ remainder (l * 256 + bitXor h (getD s i 0)) (coefficients (drop (i + 1) s))
-unfolding coefficients
-bring-at s i h l hi hh hl hb =
-    rw (add-one, drop-cons s i 0) (bring-byte h l (getD s i 0) (coefficients (drop (suc i) s)) hh hl hb)
-
--- Past the end of s nothing is left to bring down.
-pub bring-end : (s : List ℕ) (i r : ℕ) → length s ≤ i → remainder r (coefficients (drop i s)) ≡ r
-unfolding coefficients remainder
-bring-end s i r h = rw (drop-of-length-le s h)

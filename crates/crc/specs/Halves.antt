@@ -1,8 +1,10 @@
 -- The two halves of the remainder by bytes: from the end back, the bytes fall in the low half and the high half by turns.
-use Prim.Native.Nat.{ℕ, _<_}
+use Prim.Native.Nat.{ℕ, _*_, _%_, _<_}
 use mathlib.Core.List.{List, [], _∷_, reverse}
+use lib.Dec.{eqb}
 use lib.ListN.{drop}
 use lib.Bits.{bitXor}
+use Rattle.base.specs.Pick.{pick}
 
 -- Every element is a byte.
 unfoldable pub AllBytes : List ℕ → Type 0
@@ -22,3 +24,7 @@ lowHalf bs = everyOther (reverse bs)
 -- The high half: the byte before the last, the fourth from the end, and every second one back from there.
 unfoldable pub highHalf : List ℕ → ℕ
 highHalf bs = everyOther (drop 1 (reverse bs))
+
+-- The byte b in the half in which it falls when n bytes stand behind it: the low half if n is even, else the high half.
+unfoldable pub inHalf : ℕ → ℕ → ℕ
+inHalf n b = pick (eqb (n % 2) 0) b (b * 256)

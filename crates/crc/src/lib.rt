@@ -1,21 +1,32 @@
 // The check of information bytes, and the test of a stored check.
 ghost use mathlib.Core.Path.{_≡_};
+ghost use Prim.Native.Nat.{_+_, _*_};
 ghost use Rattle.crc.specs.Check.{coefficients, remainder, checkOf, agrees};
 
-// The remainder of the bytes: with each byte the two halves change places, and the byte is added to the one that becomes low.
+// The number that two bytes make, the high one first.
+fn from_be_bytes(high: u8, low: u8) -> u16
+    ensures { λ r. ⌜ r ≡ high * 256 + low ⌝ }
+{
+    high as u16 * 256 + low as u16
+}
+
+// The remainder of the bytes, a byte for each half: the last byte falls in the low half, the one before it in the high half, and so on back.
+// n bytes are still to be taken; of an odd number the first one is left over and falls in the low half. Of C1 C2 C3 the high half has C2, the low half C3 and C1.
 fn remainder_of(bytes: &[u8]) -> u16
     ensures { λ r. ⌜ r ≡ remainder 0 (coefficients (now (bytes .entry))) ⌝ }
 {
     let mut high: u8 = 0;
     let mut low: u8 = 0;
-    let mut i = 0;
-    while i < bytes.len() {
-        let turned = high ^ bytes[i];
-        high = low;
-        low = turned;
-        i += 1;
+    let mut n = bytes.len();
+    while n > 1 {
+        low ^= bytes[n - 1];
+        high ^= bytes[n - 2];
+        n -= 2;
     }
-    high as u16 * 256 + low as u16
+    if n == 1 {
+        return from_be_bytes(high, low ^ bytes[0]);
+    }
+    from_be_bytes(high, low)
 }
 
 // The check of the bytes: the remainder with every bit complemented.
@@ -29,5 +40,5 @@ pub fn check_of(bytes: &[u8]) -> u16
 pub fn check_agrees(bytes: &[u8], high: u8, low: u8) -> bool
     ensures { λ r. ⌜ r ≡ agrees (now (bytes .entry)) high low ⌝ }
 {
-    check_of(bytes) == high as u16 * 256 + low as u16
+    check_of(bytes) == from_be_bytes(high, low)
 }

@@ -1,66 +1,118 @@
--- `remainder_of` meets its contract: at each turn the two halves, with the bytes that are left, have the remainder of the whole.
-use mathlib.Core.Path.{_≡_, sym, _∙_}
-use Prim.Native.Nat.{_+_, _-_, _*_, _≤_, _<_}
+-- `remainder_of` meets its contract: at each turn the two halves are those of the remainder of the bytes from place n on.
+use mathlib.Core.Path.{_≡_, refl, sym, ap, _∙_}
+use Prim.Native.Nat.{ℕ, _+_, _-_, _*_, _%_, _≤_, _<_}
 use native.Mathlib.Omega.{arith}
 use borrow.Author.Needs.{needs}
+use mathlib.Core.List.{List, _∷_}
+use lib.Dec.{lit<}
 use lib.ListN.{length, getD, drop}
-use lib.Bits.{xor-lt}
+use lib.Seq.{drop-length, drop-cons}
+use lib.Bits.{bitXor, xor-lt}
 use Rattle.crc.specs.Check.{remainder, coefficients}
-use Rattle.crc.proofs.Turn.{bring-at, bring-end}
+use Rattle.crc.proofs.Before.{low-before, high-before, drop-two}
 use Rattle.crc.proofs.remainder_of.Statement.{statement}
 use Rattle.crc.proofs.remainder_of.Tie as tie
 
--- What holds at each turn: the halves are bytes, and the bytes from place i on, brought down behind them, leave the remainder of the whole.
+-- What holds at each turn: from place n on stands an even number of bytes, and the halves are those of their remainder.
 abbrev Inv-loop : tie.InvT-loop
-Inv-loop bytes high₀ low₀ i₀ high low i =
-    (i ≤ length bytes) × (high < 256) × (low < 256)
-    × (remainder (high * 256 + low) (coefficients (drop i bytes)) ≡ remainder 0 (coefficients bytes))
+Inv-loop bytes high₀ low₀ n₀ high low n =
+    (n ≤ length bytes) × (length (drop n bytes) % 2 ≡ 0)
+    × (high * 256 + low ≡ remainder 0 (coefficients (drop n bytes)))
+    × (high < 256) × (low < 256)
 
 -- What falls with each turn: the number of bytes left.
 abbrev μ-loop : tie.MeasureT-loop
-μ-loop bytes high₀ low₀ i₀ high low i = length bytes - i
+μ-loop bytes high₀ low₀ n₀ high low n = n
 
 loop-holds : tie.Need-loop-holds Inv-loop μ-loop
-loop-holds c = search needs
+unfolding remainder coefficients
+loop-holds c = rw (drop-length (c .before .args .bytes .now)) (omega arith, refl, refl, lit< tt, lit< tt)
 
-shared-slice-read-turned : tie.Need-shared-slice-read-turned Inv-loop μ-loop
-shared-slice-read-turned c = omega arith
+sub-low : tie.Need-sub-low Inv-loop μ-loop
+sub-low c = search needs
 
-add-i : tie.Need-add-i Inv-loop μ-loop
-add-i c = omega arith
+shared-slice-read-low : tie.Need-shared-slice-read-low Inv-loop μ-loop
+shared-slice-read-low c = search needs
+
+sub-high : tie.Need-sub-high Inv-loop μ-loop
+sub-high c = search needs
+
+shared-slice-read-high : tie.Need-shared-slice-read-high Inv-loop μ-loop
+shared-slice-read-high c = search needs
+
+sub-n : tie.Need-sub-n Inv-loop μ-loop
+sub-n c = search needs
 
 loop-less : tie.Need-loop-less Inv-loop μ-loop
-loop-less c = omega arith
+loop-less c = search needs
 
 loop-again : tie.Need-loop-again Inv-loop μ-loop
 loop-again c =
-    let s = c .before .before .before .args .bytes .now in
-    let l = c .before .before .loop in
-    let hi : l .i < length s = omega arith in
-    let hb : getD s (l .i) 0 < 256 = omega (arith, c .shared-slice-known .given (l .i)) in
-    let hh : l .high < 256 = l .inv .1 in
-    let hl : l .low < 256 = l .inv .2 in
-    (omega arith, hl, xor-lt 8 _ _ hh hb, sym (bring-at s (l .i) (l .high) (l .low) hi hh hl hb) ∙ l .inv .3)
+    let s = c .before .before .before .before .before .args .bytes .now in
+    let l = c .before .before .before .loop in
+    let a : ℕ = getD s (l .n - 2) 0 in
+    let b : ℕ = getD s (l .n - 1) 0 in
+    let ha : a < 256 = omega (arith, c .shared-slice-known3 .given (l .n - 2)) in
+    let hb : b < 256 = omega (arith, c .shared-slice-known3 .given (l .n - 1)) in
+    let hl : bitXor (l .low) b < 256 = xor-lt 8 (l .low) b (l .inv .4) hb in
+    let cut : drop (l .n - 2) s ≡ a ∷ b ∷ drop (l .n) s = drop-two s (l .n) (l .n - 2) (l .n - 1) (omega arith) (omega arith) (l .inv .0) in
+    let last : l .high * 256 + bitXor (l .low) b ≡ remainder 0 (coefficients (b ∷ drop (l .n) s)) =
+    low-before (l .high) (l .low) (drop (l .n) s) (l .inv .4) (l .inv .2) b hb (l .inv .1) in
+    rw cut (
+      omega arith,
+      omega (arith, l .inv .1),
+      high-before (l .high) (bitXor (l .low) b) (b ∷ drop (l .n) s) hl last a ha (omega (arith, l .inv .1)),
+      xor-lt 8 (l .high) a (l .inv .3) ha,
+      hl,
+    )
 
-cast-result : tie.Need-cast-result Inv-loop μ-loop
-cast-result c = omega arith
+shared-slice-read-from-be-bytes : tie.Need-shared-slice-read-from-be-bytes Inv-loop μ-loop
+shared-slice-read-from-be-bytes c = search needs
 
-mul-result : tie.Need-mul-result Inv-loop μ-loop
-mul-result c = omega arith
-
-cast-result-2 : tie.Need-cast-result-2 Inv-loop μ-loop
-cast-result-2 c = omega arith
-
-add-result : tie.Need-add-result Inv-loop μ-loop
-add-result c = omega arith
+from-be-bytes-requires : tie.Need-from-be-bytes-requires Inv-loop μ-loop
+from-be-bytes-requires c κs = search needs
 
 returns : tie.Need-returns Inv-loop μ-loop
 returns c =
-    let s = c .before .before .args .bytes .now in
-    let l = c .before .loop in
-    sym (bring-end s (l .i) (l .high * 256 + l .low) (omega arith)) ∙ l .inv .3
+    let s = c .before .before .before .before .before .before .args .bytes .now in
+    let l = c .before .before .before .before .loop in
+    let b : ℕ = getD s 0 0 in
+    let hb : b < 256 = omega (arith, c .before .shared-slice-known4 .given 0) in
+    let one : l .n ≡ 1 = omega arith in
+    let even : length (drop 1 s) % 2 ≡ 0 = rw one at (l .inv .1) in
+    let known : l .high * 256 + l .low ≡ remainder 0 (coefficients (drop 1 s)) = rw one at (l .inv .2) in
+    let cut : b ∷ drop 1 s ≡ s = sym (drop-cons s 0 0 (omega (arith, l .inv .0))) in
+    let given : c .from-be-bytes .result ≡ l .high * 256 + bitXor (l .low) b = c .from-be-bytes .ensures in
+    given ∙ low-before (l .high) (l .low) (drop 1 s) (l .inv .4) known b hb even ∙ ap (λ (r : List ℕ). remainder 0 (coefficients r)) cut
+
+from-be-bytes-requires-2 : tie.Need-from-be-bytes-requires-2 Inv-loop μ-loop
+from-be-bytes-requires-2 c κs = search needs
+
+returns-2 : tie.Need-returns-2 Inv-loop μ-loop
+returns-2 c =
+    let s = c .before .before .before .before .before .args .bytes .now in
+    let l = c .before .before .before .loop in
+    let none : l .n ≡ 0 = omega arith in
+    let known : l .high * 256 + l .low ≡ remainder 0 (coefficients s) = rw none at (l .inv .2) in
+    let given : c .from-be-bytes2 .result ≡ l .high * 256 + l .low = c .from-be-bytes2 .ensures in
+    given ∙ known
 
 pub remainder-of-spec : {M : Type 1} → statement M
 remainder-of-spec =
     tie.close
-    (tie.spec Inv-loop μ-loop loop-holds shared-slice-read-turned add-i loop-less loop-again cast-result mul-result cast-result-2 add-result returns)
+    (tie.spec
+    Inv-loop
+    μ-loop
+    loop-holds
+    sub-low
+    shared-slice-read-low
+    sub-high
+    shared-slice-read-high
+    sub-n
+    loop-less
+    loop-again
+    shared-slice-read-from-be-bytes
+    from-be-bytes-requires
+    returns
+    from-be-bytes-requires-2
+    returns-2)
