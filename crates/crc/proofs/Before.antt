@@ -69,7 +69,7 @@ remainder-before b bs h =
     ∙ remainder-added bs 0 0 0 b (lit< tt) (lit< tt) (lit< tt) h
     ∙ ap (bitXor (remainder 0 (coefficients bs))) (omega (arith, half-zero (suc (length bs))))
 
--- The check with a byte put before n bytes: in the low half if n is even, else in the high half, the bits where the byte has ones are flipped, and no others.
+-- A byte put before n bytes is added to the low half of their check if n is even, else to the high half: the bits in which it is 1 change, all others stay.
 pub check-before : (b : ℕ) (bs : List ℕ) → b < 256 → checkOf (b ∷ bs) ≡ bitXor (checkOf bs) (inHalf (length bs) b)
 check-before b bs h =
     check-complement (b ∷ bs)
@@ -87,7 +87,7 @@ add-high : (h l b : ℕ) → l < 256 → bitXor (h * 256 + l) (b * 256) ≡ bitX
 add-high h l b hl =
     ap (bitXor (h * 256 + l)) (omega arith) ∙ xor-block 8 h b l 0 hl (lit< tt) ∙ ap (λ (z : ℕ). bitXor h b * 256 + z) (xor-zero-r l)
 
--- The check as it is stored: the byte is added to the low byte if n is even, else to the high byte, and the other one stays.
+-- The same of the check as it is stored: the byte is added to its low byte if n is even, else to its high byte, and the other one stays.
 pub stored-before : (b : ℕ) (bs : List ℕ) → b < 256
     → checkBytes (b ∷ bs)
     ≡ pick (eqb (length bs % 2) 0)

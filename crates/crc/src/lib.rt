@@ -10,20 +10,20 @@ fn from_be_bytes(high: u8, low: u8) -> u16
     high as u16 * 256 + low as u16
 }
 
-// The remainder of the bytes, a byte for each half: the last byte falls in the low half, the one before it in the high half, and so on back.
-// n bytes are still to be taken; of an odd number the first one is left over and falls in the low half. Of C1 C2 C3 the high half has C2, the low half C3 and C1.
+// The remainder of the bytes, kept as a byte for each half: going back from the last byte, the low half and the high half take one byte each by turns.
+// Of an odd number of bytes the first is left over, and is the low half's: of C1 C2 C3 the low half takes C3 and C1, the high half C2.
 fn remainder_of(bytes: &[u8]) -> u16
     ensures { λ r. ⌜ r ≡ remainder 0 (coefficients (now (bytes .entry))) ⌝ }
 {
     let mut high: u8 = 0;
     let mut low: u8 = 0;
-    let mut n = bytes.len();
-    while n > 1 {
-        low ^= bytes[n - 1];
-        high ^= bytes[n - 2];
-        n -= 2;
+    let mut remaining = bytes.len();
+    while remaining > 1 {
+        low ^= bytes[remaining - 1];
+        high ^= bytes[remaining - 2];
+        remaining -= 2;
     }
-    if n == 1 {
+    if remaining == 1 {
         return from_be_bytes(high, low ^ bytes[0]);
     }
     from_be_bytes(high, low)

@@ -40,8 +40,8 @@ sub-high c = search needs
 shared-slice-read-high : tie.Need-shared-slice-read-high Inv-loop μ-loop
 shared-slice-read-high c = search needs
 
-sub-n : tie.Need-sub-n Inv-loop μ-loop
-sub-n c = search needs
+sub-remaining : tie.Need-sub-remaining Inv-loop μ-loop
+sub-remaining c = search needs
 
 loop-less : tie.Need-loop-less Inv-loop μ-loop
 loop-less c = search needs
@@ -50,18 +50,18 @@ loop-again : tie.Need-loop-again Inv-loop μ-loop
 loop-again c =
     let s = c .before .before .before .before .before .args .bytes .now in
     let l = c .before .before .before .loop in
-    let a : ℕ = getD s (l .n - 2) 0 in
-    let b : ℕ = getD s (l .n - 1) 0 in
-    let ha : a < 256 = omega (arith, c .shared-slice-known3 .given (l .n - 2)) in
-    let hb : b < 256 = omega (arith, c .shared-slice-known3 .given (l .n - 1)) in
+    let a : ℕ = getD s (l .remaining - 2) 0 in
+    let b : ℕ = getD s (l .remaining - 1) 0 in
+    let ha : a < 256 = omega (arith, c .shared-slice-known3 .given (l .remaining - 2)) in
+    let hb : b < 256 = omega (arith, c .shared-slice-known3 .given (l .remaining - 1)) in
     let hl : bitXor (l .low) b < 256 = xor-lt 8 (l .low) b (l .inv .4) hb in
-    let cut : drop (l .n - 2) s ≡ a ∷ b ∷ drop (l .n) s = drop-two s (l .n) (l .n - 2) (l .n - 1) (omega arith) (omega arith) (l .inv .0) in
-    let last : l .high * 256 + bitXor (l .low) b ≡ remainder 0 (coefficients (b ∷ drop (l .n) s)) =
-    low-before (l .high) (l .low) (drop (l .n) s) (l .inv .4) (l .inv .2) b hb (l .inv .1) in
+    let cut : drop (l .remaining - 2) s ≡ a ∷ b ∷ drop (l .remaining) s = drop-two s (l .remaining) (l .remaining - 2) (l .remaining - 1) (omega arith) (omega arith) (l .inv .0) in
+    let last : l .high * 256 + bitXor (l .low) b ≡ remainder 0 (coefficients (b ∷ drop (l .remaining) s)) =
+    low-before (l .high) (l .low) (drop (l .remaining) s) (l .inv .4) (l .inv .2) b hb (l .inv .1) in
     rw cut (
       omega arith,
       omega (arith, l .inv .1),
-      high-before (l .high) (bitXor (l .low) b) (b ∷ drop (l .n) s) hl last a ha (omega (arith, l .inv .1)),
+      high-before (l .high) (bitXor (l .low) b) (b ∷ drop (l .remaining) s) hl last a ha (omega (arith, l .inv .1)),
       xor-lt 8 (l .high) a (l .inv .3) ha,
       hl,
     )
@@ -78,7 +78,7 @@ returns c =
     let l = c .before .before .before .before .loop in
     let b : ℕ = getD s 0 0 in
     let hb : b < 256 = omega (arith, c .before .shared-slice-known4 .given 0) in
-    let one : l .n ≡ 1 = omega arith in
+    let one : l .remaining ≡ 1 = omega arith in
     let even : length (drop 1 s) % 2 ≡ 0 = rw one at (l .inv .1) in
     let known : l .high * 256 + l .low ≡ remainder 0 (coefficients (drop 1 s)) = rw one at (l .inv .2) in
     let cut : b ∷ drop 1 s ≡ s = sym (drop-cons s 0 0 (omega (arith, l .inv .0))) in
@@ -92,7 +92,7 @@ returns-2 : tie.Need-returns-2 Inv-loop μ-loop
 returns-2 c =
     let s = c .before .before .before .before .before .args .bytes .now in
     let l = c .before .before .before .loop in
-    let none : l .n ≡ 0 = omega arith in
+    let none : l .remaining ≡ 0 = omega arith in
     let known : l .high * 256 + l .low ≡ remainder 0 (coefficients s) = rw none at (l .inv .2) in
     let given : c .from-be-bytes2 .result ≡ l .high * 256 + l .low = c .from-be-bytes2 .ensures in
     given ∙ known
@@ -108,7 +108,7 @@ remainder-of-spec =
     shared-slice-read-low
     sub-high
     shared-slice-read-high
-    sub-n
+    sub-remaining
     loop-less
     loop-again
     shared-slice-read-from-be-bytes
