@@ -1,6 +1,6 @@
 -- A coefficient brought down turns the remainder round by one bit, and a byte turns it round by eight.
 use mathlib.Core.Path.{_≡_, refl, sym, ap, ap₂, _∙_, subst}
-use Prim.Native.Nat.{ℕ, zero, suc, _+_, _*_, _/_, _%_, _^_, _≤_, _<_}
+use Prim.Native.Nat.{ℕ, zero, suc, _+_, _*_, _/_, _%_, _^_, _<_}
 use native.Mathlib.Omega.{arith}
 use native.Mathlib.Numerals.{one-add}
 use native.Mathlib.Nat.{zero-add, mul-comm, pow-suc, mod-lt, mod-one, div-lt-iff-lt-mul, div-add-mod', mod-eq-of-lt}

@@ -36,6 +36,10 @@ xor-middle a b c d =
     ∙ ap (bitXor a) (sym (xor-assoc b c d) ∙ ap (λ (z : ℕ). bitXor z d) (xor-comm b c) ∙ xor-assoc c b d)
     ∙ sym (xor-assoc a c (bitXor b d))
 
+-- Of three numbers the last two may change places.
+pub xor-last : (a b c : ℕ) → bitXor (bitXor a b) c ≡ bitXor (bitXor a c) b
+xor-last a b c = xor-assoc a b c ∙ ap (bitXor a) (xor-comm b c) ∙ sym (xor-assoc a c b)
+
 -- A number added twice is gone.
 pub xor-twice : (a b : ℕ) → bitXor a (bitXor a b) ≡ b
 xor-twice a b = sym (xor-assoc a a b) ∙ ap (λ (z : ℕ). bitXor z b) (xor-self a)

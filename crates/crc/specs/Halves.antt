@@ -25,6 +25,6 @@ lowHalf bs = everyOther (reverse bs)
 unfoldable pub highHalf : List ℕ → ℕ
 highHalf bs = everyOther (drop 1 (reverse bs))
 
--- The byte b in the half in which it falls when n bytes stand behind it: the low half if n is even, else the high half.
+-- The byte b in its half, with n bytes behind it: as it is where n is even, which is the low half, and times 256 where n is odd, the high half.
 unfoldable pub inHalf : ℕ → ℕ → ℕ
 inHalf n b = pick (eqb (n % 2) 0) b (b * 256)

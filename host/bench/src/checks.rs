@@ -5,20 +5,15 @@ use reference::generate::Rng;
 use std::hint::black_box;
 use std::time::{Duration, Instant};
 
-/// How many bytes: a count's, a card's, and those of two longer data blocks.
+/// How many bytes: a count's, and those of three data blocks.
 const LENGTHS: [usize; 4] = [9, 80, 1_000, 3_800];
 /// How many lists of bytes of each length.
 const LISTS: u64 = 64;
-/// How many bytes are gone through in each turn.
+/// At most so many bytes are gone through in each turn.
 const BYTES: usize = 16_000_000;
 
 /// The check as it is stored.
 type Check = fn(&[u8]) -> [u8; 2];
-
-/// By the proved library.
-fn ours(information: &[u8]) -> [u8; 2] {
-    crc::check_of(information).to_be_bytes()
-}
 
 /// The time of one turn over the lists.
 fn time(lists: &[Vec<u8>], rounds: usize, check: Check) -> Duration {
@@ -33,7 +28,7 @@ fn time(lists: &[Vec<u8>], rounds: usize, check: Check) -> Duration {
 
 /// One line of the table.
 fn measure(length: usize) {
-    let theirs: Check = reference::check::check;
+    let (ours, theirs): (Check, Check) = (crc::check_of, reference::check::check);
     let lists: Vec<_> = (0..LISTS)
         .map(|seed| Rng::new(seed).bytes(length))
         .collect();
@@ -58,7 +53,7 @@ fn measure(length: usize) {
 
 /// One line for each length.
 pub fn measure_all() {
-    println!("the check alone, best of {TURNS} turns of {BYTES} bytes; call in ns");
+    println!("the check alone, best of {TURNS} turns of at most {BYTES} bytes; call in ns");
     println!("{:<28} {:>29} {:>9} {:>7}", "", "call", "(ref.)", "ratio");
     LENGTHS.into_iter().for_each(measure);
 }

@@ -1,5 +1,6 @@
-//! The check against the reference, folded and divided, at every length that a track can hold and at some beyond.
+//! The check against the reference, folded and divided, at every length up to that of the longest track and at some beyond.
 
+use crc::check_of;
 use reference::check::{check, check_by_division};
 use reference::generate::Rng;
 use reference::layout::LONGEST;
@@ -7,14 +8,14 @@ use std::io::Write;
 
 /// Lengths from none to the longest track.
 const LENGTHS: u64 = LONGEST as u64 + 1;
-/// Kinds of bytes; every length of every kind is usual.
+/// Kinds of bytes; at least every length with every kind is run.
 const KINDS: u64 = 5;
 
 /// A number from the environment.
 fn number_from(name: &str) -> Option<u64> {
     let text = std::env::var(name).ok()?;
     let number = text.parse();
-    Some(number.unwrap_or_else(|_| panic!("{name}={text}: a number is expected")))
+    Some(number.unwrap_or_else(|_| panic!("{name} is not a number: {text}")))
 }
 
 /// Bytes drawn from a seed: each length in turn, and each kind of bytes.
@@ -31,7 +32,7 @@ fn information(seed: u64) -> Vec<u8> {
     }
 }
 
-/// Zero bytes but for one, wherever there is one.
+/// Zero bytes with any byte at one place; no bytes where the length is 0.
 fn lone_byte(rng: &mut Rng, length: usize) -> Vec<u8> {
     let mut bytes = vec![0; length];
     if length > 0 {
@@ -40,30 +41,25 @@ fn lone_byte(rng: &mut Rng, length: usize) -> Vec<u8> {
     bytes
 }
 
-/// The check of the proved library, as it is stored.
-fn ours(information: &[u8]) -> [u8; 2] {
-    crc::check_of(information).to_be_bytes()
-}
-
 /// Demands what the reference gives in both of its ways.
 fn same_check(information: &[u8], note: &str) {
-    let stored = ours(information);
+    let stored = check_of(information);
     assert_eq!(stored, check(information), "{note}");
     assert_eq!(stored, check_by_division(information), "{note}");
 }
 
-/// Demands that the first byte flips, where it has ones, bits of the half that it falls in, and no others.
-fn first_byte_flips(information: &[u8], note: &str) {
+/// Demands the check of the bytes behind the first, with the first exclusive-ored into its half.
+fn first_byte_in_its_half(information: &[u8], note: &str) {
     let (first, rest) = information.split_first().expect("a byte");
-    let [high, low] = ours(rest);
-    let flipped = match rest.len() % 2 {
+    let [high, low] = check_of(rest);
+    let expected = match rest.len() % 2 {
         0 => [high, low ^ first],
         _ => [high ^ first, low],
     };
-    assert_eq!(ours(information), flipped, "{note}");
+    assert_eq!(check_of(information), expected, "{note}");
 }
 
-/// Every length of a track with every kind of bytes, alone and with a byte before.
+/// Every length up to the longest track's with every kind of bytes, alone and with a byte before.
 #[test]
 fn check_as_the_reference() {
     let usual = KINDS * LENGTHS;
@@ -74,7 +70,8 @@ fn check_as_the_reference() {
         longer.extend(information(seed));
         let note = format!("seed {seed}");
         same_check(&longer[1..], &note);
-        first_byte_flips(&longer, &note);
+        same_check(&longer, &note);
+        first_byte_in_its_half(&longer, &note);
     }
     let seeds = start..start + count;
     let line = format!(
@@ -90,6 +87,7 @@ fn check_of_long_lists() {
         let longer = Rng::new(length).bytes(length as usize + 1);
         let note = format!("{length} bytes");
         same_check(&longer[1..], &note);
-        first_byte_flips(&longer, &note);
+        same_check(&longer, &note);
+        first_byte_in_its_half(&longer, &note);
     }
 }

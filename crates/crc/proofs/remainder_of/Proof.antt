@@ -1,6 +1,6 @@
--- `remainder_of` meets its contract: at each turn the two halves are those of the remainder of the bytes from place n on.
+-- `remainder_of` meets its contract: at each turn the two halves are those of the remainder of the bytes behind the remaining ones.
 use mathlib.Core.Path.{_≡_, refl, sym, ap, _∙_}
-use Prim.Native.Nat.{ℕ, _+_, _-_, _*_, _%_, _≤_, _<_}
+use Prim.Native.Nat.{ℕ, suc, _+_, _-_, _*_, _%_, _≤_, _<_}
 use native.Mathlib.Omega.{arith}
 use borrow.Author.Needs.{needs}
 use mathlib.Core.List.{List, _∷_}
@@ -9,20 +9,27 @@ use lib.ListN.{length, getD, drop}
 use lib.Seq.{drop-length, drop-cons}
 use lib.Bits.{bitXor, xor-lt}
 use Rattle.crc.specs.Check.{remainder, coefficients}
-use Rattle.crc.proofs.Before.{low-before, high-before, drop-two}
+use Rattle.crc.proofs.Before.{low-before, high-before}
 use Rattle.crc.proofs.remainder_of.Statement.{statement}
 use Rattle.crc.proofs.remainder_of.Tie as tie
 
--- What holds at each turn: from place n on stands an even number of bytes, and the halves are those of their remainder.
+-- From place k on stand the bytes at k and at the next place, j, and then those from the place after that, n, on.
+drop-two : (s : List ℕ) (n k j : ℕ) → n ≡ k + 2 → j ≡ k + 1 → n ≤ length s → drop k s ≡ getD s k 0 ∷ getD s j 0 ∷ drop n s
+drop-two s n k j en ej m =
+    let sn : n ≡ suc j = omega arith in
+    let sj : j ≡ suc k = omega arith in
+    drop-cons s k 0 (omega arith) ∙ ap (λ (r : List ℕ). getD s k 0 ∷ r) (rw (← sj) (drop-cons s j 0 (omega arith) ∙ rw sn refl))
+
+-- What holds at each turn: behind the remaining bytes stands an even number of others, and the halves are those of their remainder.
 abbrev Inv-loop : tie.InvT-loop
-Inv-loop bytes high₀ low₀ n₀ high low n =
-    (n ≤ length bytes) × (length (drop n bytes) % 2 ≡ 0)
-    × (high * 256 + low ≡ remainder 0 (coefficients (drop n bytes)))
+Inv-loop bytes high₀ low₀ remaining₀ high low remaining =
+    (remaining ≤ length bytes) × (length (drop remaining bytes) % 2 ≡ 0)
+    × (high * 256 + low ≡ remainder 0 (coefficients (drop remaining bytes)))
     × (high < 256) × (low < 256)
 
--- What falls with each turn: the number of bytes left.
+-- What falls with each turn: how many bytes remain.
 abbrev μ-loop : tie.MeasureT-loop
-μ-loop bytes high₀ low₀ n₀ high low n = n
+μ-loop bytes high₀ low₀ remaining₀ high low remaining = remaining
 
 loop-holds : tie.Need-loop-holds Inv-loop μ-loop
 unfolding remainder coefficients
