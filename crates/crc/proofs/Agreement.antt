@@ -16,7 +16,7 @@ same-test false true f g = g refl
 same-test false false f g = refl
 
 -- Where the test of agreement holds, the two bytes are those of the check.
-agrees-parts : (bs : List ℕ) (h l : ℕ) → agrees bs h l ≡ true → (checkOf bs / 256 ≡ h) × (checkOf bs % 256 ≡ l)
+pub agrees-parts : (bs : List ℕ) (h l : ℕ) → agrees bs h l ≡ true → (checkOf bs / 256 ≡ h) × (checkOf bs % 256 ≡ l)
 unfolding agrees
 agrees-parts bs h l e =
     let p = and-both (eqb (checkOf bs / 256) h) (eqb (checkOf bs % 256) l) e in

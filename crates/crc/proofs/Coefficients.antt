@@ -1,7 +1,8 @@
--- The coefficients of bytes are 0 and 1.
+-- The coefficients of bytes are 0 and 1, and go by parts of the bytes.
+use mathlib.Core.Path.{_≡_, refl, sym, ap, _∙_}
 use Prim.Native.Nat.{ℕ, zero, suc, _/_, _^_}
 use native.Mathlib.Nat.{mod-lt}
-use mathlib.Core.List.{List, [], _∷_, _++_}
+use mathlib.Core.List.{List, [], _∷_, _++_, append-assoc}
 use lib.Dec.{lit<}
 use Rattle.crc.specs.Check.{digits, coefficients}
 use Rattle.crc.specs.Division.{Digits}
@@ -17,3 +18,10 @@ pub coefficients-digits : (bs : List ℕ) → Digits (coefficients bs)
 unfolding Digits coefficients
 coefficients-digits [] = tt
 coefficients-digits (b ∷ bs) = digits-append 8 b (coefficients bs) (coefficients-digits bs)
+
+-- The coefficients of bytes in two parts are those of each part, one after the other.
+pub coefficients-append : (bs cs : List ℕ) → coefficients (bs ++ cs) ≡ coefficients bs ++ coefficients cs
+unfolding coefficients
+coefficients-append [] cs = refl
+coefficients-append (b ∷ bs) cs =
+    ap (λ (xs : List ℕ). digits 8 b ++ xs) (coefficients-append bs cs) ∙ sym (append-assoc (digits 8 b) (coefficients bs) (coefficients cs))

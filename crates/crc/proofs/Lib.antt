@@ -4,6 +4,7 @@ pub mod Bytes
 pub mod Coefficients
 pub mod Turn
 pub mod Remainder
+pub mod Linear
 pub mod Value
 pub mod Division
 pub mod Shift
@@ -11,3 +12,6 @@ pub mod Halves
 pub mod Check
 pub mod Before
 pub mod Agreement
+pub mod Together
+pub mod Burst
+pub mod TwoApart

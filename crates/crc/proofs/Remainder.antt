@@ -8,12 +8,16 @@ use Rattle.crc.specs.Check.{bringDown, remainder}
 use Rattle.crc.specs.Division.{Digits}
 use Rattle.crc.proofs.Turn.{bring-turn}
 
+-- What bringing down a coefficient makes of any remainder: its top digit comes round, and the coefficient is added to it.
+pub bring-is : (r c : ℕ) → r < 65536 → c < 2 → bringDown r c ≡ r % 32768 * 2 + bitXor (r / 32768) c
+bring-is r c h k =
+    ap (λ (z : ℕ). bringDown z c) (omega arith) ∙ bring-turn (r / 32768) (r % 32768) c (omega arith) (omega arith) k
+
 -- Bringing down a coefficient keeps the degree below 16.
 pub bring-lt : (r c : ℕ) → r < 65536 → c < 2 → bringDown r c < 65536
 bring-lt r c h k =
     let hx : bitXor (r / 32768) c < 2 = xor-lt 1 (r / 32768) c (omega arith) k in
-    let e : bringDown r c ≡ r % 32768 * 2 + bitXor (r / 32768) c = ap (λ (z : ℕ). bringDown z c) (omega arith) ∙ bring-turn (r / 32768) (r % 32768) c (omega arith) (omega arith) k in
-    omega (arith, e)
+    omega (arith, bring-is r c h k)
 
 -- The remainder has degree below 16.
 pub remainder-lt : (r : ℕ) (cs : List ℕ) → r < 65536 → Digits cs → remainder r cs < 65536

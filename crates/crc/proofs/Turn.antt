@@ -13,7 +13,7 @@ use borrow.Author.Tests.{lt-ltb, le-ltb}
 use Rattle.crc.specs.Check.{digits, divisor, bringDown, remainder}
 
 -- A remainder with no term in x^15 is shifted.
-shifted : (t b : ℕ) → t < 32768 → b < 2 → bringDown t b ≡ t * 2 + b
+pub shifted : (t b : ℕ) → t < 32768 → b < 2 → bringDown t b ≡ t * 2 + b
 unfolding bringDown
 shifted t b ht hb = simp (lt-ltb (t * 2 + b) 65536 (omega arith))
 
