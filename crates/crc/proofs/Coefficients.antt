@@ -1,9 +1,11 @@
--- The coefficients of bytes are 0 and 1, and go by parts of the bytes.
+-- The coefficients of bytes are 0 and 1, eight for each byte, and go by parts of the bytes.
 use mathlib.Core.Path.{_≡_, refl, sym, ap, _∙_}
-use Prim.Native.Nat.{ℕ, zero, suc, _/_, _^_}
+use Prim.Native.Nat.{ℕ, zero, suc, _*_, _/_, _^_}
+use native.Mathlib.Omega.{arith}
 use native.Mathlib.Nat.{mod-lt}
 use mathlib.Core.List.{List, [], _∷_, _++_, append-assoc}
 use lib.Dec.{lit<}
+use lib.ListN.{length}
 use Rattle.crc.specs.Check.{digits, coefficients}
 use Rattle.crc.specs.Division.{Digits}
 
@@ -25,3 +27,9 @@ unfolding coefficients
 coefficients-append [] cs = refl
 coefficients-append (b ∷ bs) cs =
     ap (λ (xs : List ℕ). digits 8 b ++ xs) (coefficients-append bs cs) ∙ sym (append-assoc (digits 8 b) (coefficients bs) (coefficients cs))
+
+-- There are eight for each byte.
+pub coefficients-length : (bs : List ℕ) → length (coefficients bs) ≡ 8 * length bs
+unfolding coefficients digits
+coefficients-length [] = refl
+coefficients-length (b ∷ bs) = omega (arith, coefficients-length bs)

@@ -15,3 +15,4 @@ pub mod Agreement
 pub mod Together
 pub mod Burst
 pub mod TwoApart
+pub mod Altered

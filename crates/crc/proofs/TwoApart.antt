@@ -1,21 +1,17 @@
 -- What the check does not catch: two single bits exactly sixteen apart, in information and check of any length and at any place.
-use mathlib.Core.Path.{_≡_, refl, sym, ap, ap₂, _∙_}
+use mathlib.Core.Path.{_≡_, refl, sym, ap, _∙_}
 use mathlib.Core.Logic.{_⊎_, inl, inr}
-use Prim.Native.Nat.{ℕ, zero, suc, _+_, _-_, _*_, _/_, _%_, _^_, _≤_, _<_}
+use Prim.Native.Nat.{ℕ, zero, suc, _+_, _^_, _≤_, _<_}
 use native.Mathlib.Omega.{arith}
 use native.Mathlib.Nat.{pow-suc}
-use mathlib.Core.Bool.{true, false}
+use mathlib.Core.Bool.{true}
 use mathlib.Core.List.{List, [], _∷_, _++_}
-use lib.Dec.{ltb, lit<}
-use lib.ListN.{length, take, getD, length-append}
-use lib.Bits.{bitXor, xor-lt, xor-shr, xor-mod, xor-zero-r, xor-self}
+use lib.Dec.{lit<}
+use lib.ListN.{getD}
 use lib.Pow.{pow-lt}
-use borrow.Author.Tests.{ltb-true, ltb-false}
-use Rattle.base.proofs.Tests.{cases}
-use Rattle.crc.specs.Check.{digits, coefficients, bringDown, remainder, checkBytes, agrees}
+use Rattle.crc.specs.Check.{bringDown, remainder, agrees}
 use Rattle.crc.specs.Division.{Digits}
-use Rattle.crc.specs.Halves.{AllBytes}
-use Rattle.crc.specs.Burst.{fieldBits, DiffersAt, Burst, TwoApart, alterBit}
+use Rattle.crc.specs.Burst.{fieldBits, Burst, TwoApart}
 use Rattle.crc.proofs.Xor.{xor-zero-same}
 use Rattle.crc.proofs.Coefficients.{coefficients-digits}
 use Rattle.crc.proofs.Turn.{bring-turn, shifted}

@@ -9,3 +9,4 @@ pub mod Written
 pub mod Add
 pub mod Correct
 pub mod Faults
+pub mod Bursts

@@ -9,5 +9,6 @@ pub mod Valid
 pub mod ReadBack
 pub mod ReadsAs
 pub mod ReadPrefix
+pub mod OtherRest
 pub mod Regapped
 pub mod CountRight

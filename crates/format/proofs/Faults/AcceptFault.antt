@@ -199,15 +199,19 @@ pub accept-faulty : (t m : List ℕ) (a : Answer) → accept t m ≡ refused a �
     → (w : Wanted) × (f : Fault) × (q : ℕ) × (a ≡ wrongAt w f q) × FaultySector t m w f q
 accept-faulty t m a e u = ⊎-elim {C = FaultMet t m a} (λ (o : refusesBlock a ≡ false). false-true (sym o ∙ u)) (λ (v : FaultMet t m a). v) (accept-refused t m a e)
 
+-- Accept gives the answer that refuses a span to which it comes.
+pub comes-accept : (t m : List ℕ) (h : Home) (y : Reached) (a : Answer) → lentForReading t m ≡ true → judgeHome (cells t m) ≡ good h
+    → judgeMarks (firstCountEnd (h .place)) 0 0 (cells t m) ≡ good tt → ComesTo h 0 unsettled (firstCountPlace (h .place)) (spansOf h (cells t m)) y → readReached h y ≡ refused a
+    → accept t m ≡ refused a
+unfolding accept acceptCells judgeBehind
+comes-accept t m h y a l j k c r = rw (l, j, k, refused-comes h 0 unsettled (firstCountPlace (h .place)) (spansOf h (cells t m)) y a c r)
+
 -- And where the first sector that is refused has a block at fault Accept gives that answer.
 pub faulty-accept : (t m : List ℕ) (w : Wanted) (f : Fault) (q : ℕ) → FaultySector t m w f q → accept t m ≡ refused (wrongAt w f q)
-unfolding accept acceptCells judgeBehind
 faulty-accept t m w f q v =
-    let h : Home = v .home in
     let y : Reached = v .reached in
-    let a : Answer = wrongAt w f q in
-    let read : readReached h y ≡ refused a = faulty-span h (y .position) (y .shared) (y .place) (y .last) (y .span) w f q (v .faulty) in
-    rw (v .lent, v .home-judged, v .marks-judged, refused-comes h 0 unsettled (firstCountPlace (h .place)) (spansOf h (cells t m)) y a (v .comes) read)
+    comes-accept t m (v .home) y (wrongAt w f q) (v .lent) (v .home-judged) (v .marks-judged) (v .comes)
+    (faulty-span (v .home) (y .position) (y .shared) (y .place) (y .last) (y .span) w f q (v .faulty))
 
 -- What Accept comes to is the track from its place on, and no mark stands outside its opening.
 comes-at : (h : Home) (i : ℕ) (x : Settled) (p : ℕ) (gs : List (List ℕ)) (y : Reached) (c : List ℕ) → drop p c ≡ joined gs → cleanSpans i gs ≡ true → ComesTo h i x p gs y

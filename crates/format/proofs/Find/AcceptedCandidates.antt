@@ -2,7 +2,7 @@
 use mathlib.Core.Path.{_≡_, refl, sym, ap, _∙_, subst}
 use Prim.Native.Nat.{ℕ, suc, _+_}
 use native.Mathlib.Omega.{arith}
-use mathlib.Core.Bool.{Bool, true}
+use mathlib.Core.Bool.{Bool, true, false}
 use mathlib.Core.List.{List, [], _∷_, _++_}
 use lib.ListN.{length, take, drop}
 use lib.Seq.{take-append-seam, drop-append-seam, drop-drop}
@@ -32,18 +32,22 @@ pub home-found : (c : List ℕ) (h : Home) → judgeHome c ≡ good h → findHo
 unfolding judgeHome
 home-found c h e = let a = then-good (findHome c) _ h e in a .1 ∙ ap good (judged-place (a .0) (homeBytes (a .0) c) h (a .2))
 
+-- Before the spans there is no candidate: the head without marks is passed over.
+pub candidates-behind : (head : List ℕ) (h : ℕ) (gs : List (List ℕ)) → length head ≡ firstCountPlace h → unmarked head ≡ true → none gs ≡ false → Shape 0 gs → cleanSpans 0 gs ≡ true
+    → candidatesFrom (good h) 0 (head ++ joined gs) ≡ candidatesFrom (good h) (firstCountPlace h) (joined gs)
+unfolding cleanSpans cleanSpan
+candidates-behind head h [] l u n t c = false-true (sym n)
+candidates-behind head h (g ∷ gs) l u n t c =
+    let k = and-both (unmarked g) (cleanSpans 1 gs) c in
+    passed-over h 0 head g (joined gs) (later-unmarked (head ++ g) (unmarked-append head g u (k .0))) (joined-seam 0 gs (t .1)) (λ i b q. omega arith)
+    ∙ ap (λ (q : ℕ). candidatesFrom (good h) q (joined (g ∷ gs))) (omega (arith, l))
+
 -- The candidates of a head without marks and of the spans behind it.
 candidates-track : (head : List ℕ) (h : Home) (gs : List (List ℕ)) (ss : List Sector) → Track head h gs ss
     → candidatesFrom (good (h .place)) 0 (head ++ joined gs) ≡ candidatesOf (acceptedOf h gs ss .sectors)
-unfolding cleanSpans cleanSpan
-candidates-track head h [] ss t = false-true (sym (t .some-span))
-candidates-track head h (g ∷ gs) ss t =
-    let n : ℕ = firstCountPlace (h .place) in
-    let k = and-both (unmarked g) (cleanSpans 1 gs) (t .clean) in
-    let l : length head ≡ n = t .head-length in
-    passed-over (h .place) 0 head g (joined gs) (later-unmarked (head ++ g) (unmarked-append head g (t .head-unmarked) (k .0))) (joined-seam 0 gs (t .shape .1)) (λ i b q. omega arith)
-    ∙ ap (λ (q : ℕ). candidatesFrom (good (h .place)) q (joined (g ∷ gs))) (omega (arith, l))
-    ∙ candidates-reads h 0 unsettled (h .place) n (g ∷ gs) ss (t .reads) (t .shape) (t .clean) refl
+candidates-track head h gs ss t =
+    candidates-behind head (h .place) gs (t .head-length) (t .head-unmarked) (t .some-span) (t .shape) (t .clean)
+    ∙ candidates-reads h 0 unsettled (h .place) (firstCountPlace (h .place)) gs ss (t .reads) (t .shape) (t .clean) refl
 
 -- The candidates of an accepted track are exactly its sectors.
 pub candidates-accepted : (c : List ℕ) (a : Accepted) → acceptCells c ≡ good a → candidates c ≡ candidatesOf (a .sectors)

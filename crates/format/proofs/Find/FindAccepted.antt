@@ -33,18 +33,19 @@ use Rattle.format.proofs.Find.FindSound.{find-hands-out}
 use Rattle.format.proofs.Find.FindParts.{restPlace}
 
 -- What follows the count's opening in the span of a sector.
-abbrev placedRest : Placed → List ℕ
+abbrev pub placedRest : Placed → List ℕ
 placedRest x = drop (openingLength (x .sector .first)) (x .span)
 
 -- The sector x is what its span says.
-record ReadWell (last : Bool) (x : Placed) : Type 0 where
+pub record ReadWell (last : Bool) (x : Placed) : Type 0 where
   pub fits : blocksFit last (placedRest x) ≡ true
   pub key-right : testKey (placedRest x) ≡ sound
   pub data-right : testData (placedRest x) ≡ sound
   pub number-is : countNumber (placedRest x) ≡ x .sector .number
   pub info-is : (w : Wanted) → infoOf w (placedRest x) ≡ contentOf w (x .sector)
 
-abbrev AllRead : List Placed → Type 0
+-- Each of the sectors is.
+abbrev pub AllRead : List Placed → Type 0
 AllRead [] = Unit {0}
 AllRead (x ∷ xs) = ReadWell (none xs) x × AllRead xs
 
@@ -53,7 +54,7 @@ unfolding sectorIn
 read-info m i u last g s v theKey = sym (ap (λ (z : Sector). z .keyBytes) (v .sector-is))
 read-info m i u last g s v theData = sym (ap (λ (z : Sector). z .dataBytes) (v .sector-is))
 
-read-well : (m : Home) (i : ℕ) (u : Settled) (last : Bool) (p : ℕ) (g : List ℕ) (s : Sector) → ReadAs m i u last g s → ReadWell last (record { place = p; span = g; sector = s })
+pub read-well : (m : Home) (i : ℕ) (u : Settled) (last : Bool) (p : ℕ) (g : List ℕ) (s : Sector) → ReadAs m i u last g s → ReadWell last (record { place = p; span = g; sector = s })
 unfolding sectorIn
 read-well m i u last p g s v =
     let f : s .first ≡ isFirst i = read-first m i u last g s v in
@@ -65,7 +66,7 @@ read-well m i u last p g s v =
       info-is = λ w. ap (λ (b : Bool). infoOf w (drop (openingLength b) g)) f ∙ read-info m i u last g s v w;
     }
 
-reads-all : (m : Home) (i : ℕ) (u : Settled) (p : ℕ) (gs : List (List ℕ)) (ss : List Sector) → Reads m i u p gs ss → AllRead (placedFrom p gs ss)
+pub reads-all : (m : Home) (i : ℕ) (u : Settled) (p : ℕ) (gs : List (List ℕ)) (ss : List Sector) → Reads m i u p gs ss → AllRead (placedFrom p gs ss)
 unfolding placedFrom
 reads-all m i u p [] [] e = tt
 reads-all m i u p [] (s ∷ ss) e = absurd e
@@ -76,7 +77,8 @@ reads-all m i u p (g ∷ gs) (s ∷ ss) e =
       reads-all m (suc i) (settle u s) (p + length g) gs ss (e .1),
     )
 
-member-among : (y : Placed) (xs : List Placed) → Member y xs → among (y .sector .number) (numbersOf xs) ≡ true
+-- The number of a sector is among the numbers of the sectors.
+pub member-among : (y : Placed) (xs : List Placed) → Member y xs → among (y .sector .number) (numbersOf xs) ≡ true
 unfolding among
 member-among y [] m = absurd m
 member-among y (x ∷ xs) m =
@@ -87,7 +89,7 @@ member-among y (x ∷ xs) m =
     m
 
 -- No candidate carries a number that no sector has.
-carrying-none : (n : ℕ) (xs : List Placed) → AllRead xs → among n (numbersOf xs) ≡ false → carrying n (candidatesOf xs) ≡ []
+pub carrying-none : (n : ℕ) (xs : List Placed) → AllRead xs → among n (numbersOf xs) ≡ false → carrying n (candidatesOf xs) ≡ []
 unfolding carrying candidatesOf among
 carrying-none n [] r e = refl
 carrying-none n (x ∷ xs) r e =
@@ -100,7 +102,7 @@ abbrev candidateOf : Bool → Placed → Candidate
 candidateOf last x = record { place = x .place; first = x .sector .first; last = last; rest = placedRest x }
 
 -- The candidate y is the only one of them that carries the number of its sector.
-record Carried (y : Placed) (xs : List Placed) : Type 0 where
+pub record Carried (y : Placed) (xs : List Placed) : Type 0 where
   pub last : Bool
   pub alone : carrying (y .sector .number) (candidatesOf xs) ≡ candidateOf last y ∷ []
   pub well : ReadWell last y
@@ -118,7 +120,8 @@ carried-later x y xs v d k c =
     let other : x .sector .number ≡ n → ⊥ = λ q. false-true (sym d ∙ ap (λ (z : ℕ). among z (numbersOf xs)) q ∙ member-among y xs k) in
     record { last = c .last; alone = rw (v .number-is, ne-eqb (x .sector .number) n other) (c .alone); well = c .well }
 
-carrying-one : (y : Placed) (xs : List Placed) → AllRead xs → Distinct (numbersOf xs) → Member y xs → Carried y xs
+-- Each sector's number is carried by its candidate alone.
+pub carrying-one : (y : Placed) (xs : List Placed) → AllRead xs → Distinct (numbersOf xs) → Member y xs → Carried y xs
 carrying-one y [] r d m = absurd m
 carrying-one y (x ∷ xs) r d m =
     ⊎-elim {C = Carried y (x ∷ xs)}
@@ -126,7 +129,8 @@ carrying-one y (x ∷ xs) r d m =
     (λ (k : Member y xs). carried-later x y xs (r .0) (d .0) k (carrying-one y xs (r .1) (d .1) k))
     m
 
-accepted-read : (c : List ℕ) (a : Accepted) → AcceptedBy c a → AllRead (a .sectors)
+-- The sectors of an accepted track are what their spans say.
+pub accepted-read : (c : List ℕ) (a : Accepted) → AcceptedBy c a → AllRead (a .sectors)
 accepted-read c a b =
     let p : ℕ = firstCountPlace (a .home .place) in
     subst AllRead (sym (b .placed)) (reads-all (a .home) 0 unsettled p (spansOf (a .home) c) (b .sectors) (b .reads))

@@ -8,14 +8,15 @@ use lib.ListN.{length, drop}
 use lib.Dec.{eqb}
 use borrow.Author.Tests.{eq-eqb, ne-eqb}
 use Rattle.format.specs.Judged.{Judged, good}
-use Rattle.format.specs.Opening.{plainOpening, opens}
+use Rattle.format.specs.Opening.{startsWith, plainOpening, opens}
 use Rattle.format.specs.Home.{Home, firstCountPlace}
 use Rattle.format.specs.Count.{Settled}
 use Rattle.format.specs.Span.{beforeOpening, laterSpans, joined, none, cleanSpan, cleanSpans}
 use Rattle.format.specs.Sector.{Sector, openingLength, isFirst, settle, sectorIn}
 use Rattle.format.specs.Accept.{Placed, placedFrom}
 use Rattle.format.specs.Candidate.{Candidate, firstOpensAt, candidateAt, countPasses, standsAt, candidatesFrom}
-use Rattle.base.proofs.Tests.{cases, and-both, and-make}
+use Rattle.base.specs.Pick.{pick}
+use Rattle.base.proofs.Tests.{cases, and-both}
 use Rattle.format.proofs.Spans.Shape.{Shape}
 use Rattle.format.proofs.Cells.Opening.{starts-with-append, opens-seam}
 use Rattle.format.proofs.Spans.Cutting.{opens-joined}
@@ -61,25 +62,29 @@ passed-over h p (x ∷ xs) ys r l s n =
     (passed-over h (suc p) xs ys r (d .1) s (λ k b w. n (suc k) (omega arith) (omega arith))
     ∙ ap (λ (k : ℕ). candidatesFrom (good h) k (ys ++ r)) (omega arith))
 
+-- The candidate x before others, if its count passes.
+abbrev pub passing : Candidate → List Candidate → List Candidate
+passing x xs = pick (countPasses x) (x ∷ xs) xs
+
 candidates-nil : (h : Judged ℕ) (p : ℕ) → candidatesFrom h p [] ≡ []
 unfolding candidatesFrom
 candidates-nil h p = refl
 
--- A count that opens and passes is a candidate.
-candidate-here : (h : Judged ℕ) (p z : ℕ) (zs : List ℕ) (first : Bool) → firstOpensAt h p (z ∷ zs) ≡ first → (first || opens (z ∷ zs)) ≡ true → countPasses (candidateAt first p (z ∷ zs)) ≡ true
-    → candidatesFrom h p (z ∷ zs) ≡ candidateAt first p (z ∷ zs) ∷ candidatesFrom h (suc p) zs
+-- A count that opens is a candidate if it passes.
+candidate-here : (h : Judged ℕ) (p z : ℕ) (zs : List ℕ) (first : Bool) → firstOpensAt h p (z ∷ zs) ≡ first → (first || opens (z ∷ zs)) ≡ true
+    → candidatesFrom h p (z ∷ zs) ≡ passing (candidateAt first p (z ∷ zs)) (candidatesFrom h (suc p) zs)
 unfolding candidatesFrom standsAt
-candidate-here h p z zs first e o q = rw (e, o, q)
+candidate-here h p z zs first e o = rw (e, o)
 
 -- The candidate of the span g in position i.
-abbrev candidateIn : ℕ → ℕ → Bool → List ℕ → Candidate
+abbrev pub candidateIn : ℕ → ℕ → Bool → List ℕ → Candidate
 candidateIn i p last g = record { place = p; first = isFirst i; last = last; rest = drop (openingLength (isFirst i)) g }
 
-candidate-agrees : (h : Home) (i : ℕ) (x : Settled) (p : ℕ) (g : List ℕ) (gs : List (List ℕ)) (s : Sector) → ReadAs h i x (none gs) g s → Shape i (g ∷ gs) → cleanSpans i (g ∷ gs) ≡ true
+candidate-agrees : (i p : ℕ) (g : List ℕ) (gs : List (List ℕ)) → openingLength (isFirst i) ≤ length g → Shape i (g ∷ gs) → cleanSpans i (g ∷ gs) ≡ true
     → candidateAt (isFirst i) p (joined (g ∷ gs)) ≡ candidateIn i p (none gs) g
 unfolding candidateAt
-candidate-agrees h i x p g gs s v t c =
-    let a = span-agrees i g gs t c (omega (arith, span-least h i x (none gs) g s v)) in
+candidate-agrees i p g gs l t c =
+    let a = span-agrees i g gs t c l in
     rw (a .1, a .2)
 
 -- Inside a span nothing opens behind its first cell.
@@ -103,41 +108,49 @@ abbrev pub AtPosition : ℕ → ℕ → ℕ → Type 0
 AtPosition zero h p = p ≡ firstCountPlace h
 AtPosition (suc i) h p = firstCountPlace h < p
 
-position-next : (i h p n : ℕ) → AtPosition i h p → 0 < n → AtPosition (suc i) h (p + n)
+pub position-next : (i h p n : ℕ) → AtPosition i h p → 0 < n → AtPosition (suc i) h (p + n)
 position-next zero h p n a l = omega arith
 position-next (suc i) h p n a l = omega arith
 
-span-first : (m : Home) (i : ℕ) (x : Settled) (h p : ℕ) (g : List ℕ) (gs : List (List ℕ)) (s : Sector) → ReadAs m i x (none gs) g s → AtPosition i h p → firstOpensAt (good h) p (joined (g ∷ gs)) ≡ isFirst i
+span-first : (i h p : ℕ) (g : List ℕ) (gs : List (List ℕ)) → openingLength (isFirst i) ≤ length g → (i ≡ 0 → startsWith plainOpening g ≡ true) → AtPosition i h p
+    → firstOpensAt (good h) p (joined (g ∷ gs)) ≡ isFirst i
 unfolding firstOpensAt
-span-first m zero x h p g gs s v a =
-    let l : 6 ≤ length g = omega (arith, span-least m 0 x (none gs) g s v) in
-    rw (eq-eqb p (firstCountPlace h) a) (starts-with-append plainOpening g (joined gs) l ∙ v .opened refl)
-span-first m (suc i) x h p g gs s v a = rw (ne-eqb p (firstCountPlace h) (λ q. omega arith))
+span-first zero h p g gs l o a = rw (eq-eqb p (firstCountPlace h) a) (starts-with-append plainOpening g (joined gs) l ∙ o refl)
+span-first (suc i) h p g gs l o a = rw (ne-eqb p (firstCountPlace h) (λ q. omega arith))
 
 position-past : (i h p k : ℕ) → AtPosition i h p → suc p + k ≡ firstCountPlace h → ⊥
 position-past zero h p k a q = omega arith
 position-past (suc i) h p k a q = omega arith
 
-read-long : (m : Home) (i : ℕ) (x : Settled) (last : Bool) (g : List ℕ) (s : Sector) → ReadAs m i x last g s → 43 ≤ length g
-read-long m i x true g s v = omega (arith, span-least m i x true g s v)
-read-long m i x false g s v = omega (arith, span-least m i x false g s v)
+-- A span that is read is not empty.
+pub read-some : (m : Home) (i : ℕ) (x : Settled) (last : Bool) (g : List ℕ) (s : Sector) → ReadAs m i x last g s → 0 < length g
+read-some m i x true g s v = omega (arith, span-least m i x true g s v)
+read-some m i x false g s v = omega (arith, span-least m i x false g s v)
 
 -- The sector in position 0 is read as sector 0, and no other.
 pub read-first : (m : Home) (i : ℕ) (x : Settled) (last : Bool) (g : List ℕ) (s : Sector) → ReadAs m i x last g s → s .first ≡ isFirst i
 unfolding sectorIn
 read-first m i x last g s v = ap (λ (k : Sector). k .first) (v .sector-is)
 
--- At the front of a span stands its candidate, and the next one not before the next span.
-candidates-span : (m : Home) (i : ℕ) (x : Settled) (h p z : ℕ) (zs : List ℕ) (gs : List (List ℕ)) (s : Sector) → ReadAs m i x (none gs) (z ∷ zs) s
-    → Shape i ((z ∷ zs) ∷ gs) → cleanSpans i ((z ∷ zs) ∷ gs) ≡ true → AtPosition i h p
-    → candidatesFrom (good h) p (z ∷ (zs ++ joined gs)) ≡ candidateIn i p (none gs) (z ∷ zs) ∷ candidatesFrom (good h) (p + length (z ∷ zs)) (joined gs)
-unfolding countPasses
-candidates-span m i x h p z zs gs s v t c a =
-    let d : candidateAt (isFirst i) p (z ∷ (zs ++ joined gs)) ≡ candidateIn i p (none gs) (z ∷ zs) = candidate-agrees m i x p (z ∷ zs) gs s v t c in
-    let q : countPasses (candidateAt (isFirst i) p (z ∷ (zs ++ joined gs))) ≡ true = rw d (and-make (v .count-fits) (v .count-closed)) in
+-- At the front of a span whose count opens stands its candidate, if it passes, and the next one not before the next span.
+pub candidates-span : (i h p : ℕ) (g : List ℕ) (gs : List (List ℕ)) → openingLength (isFirst i) ≤ length g → (i ≡ 0 → startsWith plainOpening g ≡ true)
+    → Shape i (g ∷ gs) → cleanSpans i (g ∷ gs) ≡ true → AtPosition i h p
+    → candidatesFrom (good h) p (joined (g ∷ gs)) ≡ passing (candidateIn i p (none gs) g) (candidatesFrom (good h) (p + length g) (joined gs))
+candidates-span zero h p [] gs l o t c a = absurd (omega arith)
+candidates-span (suc i) h p [] gs l o t c a = absurd (omega arith)
+candidates-span i h p (z ∷ zs) gs l o t c a =
+    let d : candidateAt (isFirst i) p (z ∷ (zs ++ joined gs)) ≡ candidateIn i p (none gs) (z ∷ zs) = candidate-agrees i p (z ∷ zs) gs l t c in
     let w = passed-over h (suc p) zs [] (joined gs) (ap laterSpans (append-nil zs) ∙ span-tail i z zs gs t) (joined-seam i gs (shape-rest i (z ∷ zs) gs t)) (λ k b e. position-past i h p k a e) in
-    candidate-here (good h) p z (zs ++ joined gs) (isFirst i) (span-first m i x h p (z ∷ zs) gs s v a) (span-opens i (z ∷ zs) gs t) q
-    ∙ ap₂ (λ (y : Candidate) (ys : List Candidate). y ∷ ys) d (w ∙ ap (λ (k : ℕ). candidatesFrom (good h) k (joined gs)) (omega arith))
+    candidate-here (good h) p z (zs ++ joined gs) (isFirst i) (span-first i h p (z ∷ zs) gs l o a) (span-opens i (z ∷ zs) gs t)
+    ∙ ap₂ passing d (w ∙ ap (λ (k : ℕ). candidatesFrom (good h) k (joined gs)) (omega arith))
+
+-- Of a span that is read it does pass.
+pub candidates-read : (m : Home) (i : ℕ) (x : Settled) (h p : ℕ) (last : Bool) (g : List ℕ) (gs : List (List ℕ)) (s : Sector) → ReadAs m i x last g s
+    → Shape i (g ∷ gs) → cleanSpans i (g ∷ gs) ≡ true → AtPosition i h p
+    → candidatesFrom (good h) p (joined (g ∷ gs)) ≡ candidateIn i p (none gs) g ∷ candidatesFrom (good h) (p + length g) (joined gs)
+unfolding countPasses
+candidates-read m i x h p last g gs s v t c a =
+    candidates-span i h p g gs (omega (arith, span-least m i x last g s v)) (v .opened) t c a ∙ rw (v .count-fits, v .count-closed)
 
 -- The spans of sectors, cut as they are and clean, have those sectors as candidates.
 pub candidates-reads : (m : Home) (i : ℕ) (x : Settled) (h p : ℕ) (gs : List (List ℕ)) (ss : List Sector) → Reads m i x p gs ss → Shape i gs → cleanSpans i gs ≡ true → AtPosition i h p
@@ -146,11 +159,10 @@ unfolding candidatesOf placedFrom cleanSpans
 candidates-reads m i x h p [] [] e t c a = candidates-nil (good h) p
 candidates-reads m i x h p [] (s ∷ ss) e t c a = absurd e
 candidates-reads m i x h p (g ∷ gs) [] e t c a = absurd e
-candidates-reads m i x h p ([] ∷ gs) (s ∷ ss) e t c a = absurd (let l = read-long m i x (none gs) [] s (read-inv m i x p (none gs) [] s (e .0)) in omega arith)
-candidates-reads m i x h p ((z ∷ zs) ∷ gs) (s ∷ ss) e t c a =
-    let v = read-inv m i x p (none gs) (z ∷ zs) s (e .0) in
-    let k = and-both (cleanSpan i (z ∷ zs)) (cleanSpans (suc i) gs) c in
-    rw (none-placed m (suc i) (settle x s) (p + suc (length zs)) gs ss (e .1), read-first m i x (none gs) (z ∷ zs) s v)
-    (candidates-span m i x h p z zs gs s v t c a
-    ∙ ap (λ (ys : List Candidate). candidateIn i p (none gs) (z ∷ zs) ∷ ys)
-    (candidates-reads m (suc i) (settle x s) h (p + suc (length zs)) gs ss (e .1) (shape-rest i (z ∷ zs) gs t) (k .1) (position-next i h p (suc (length zs)) a (omega arith))))
+candidates-reads m i x h p (g ∷ gs) (s ∷ ss) e t c a =
+    let v = read-inv m i x p (none gs) g s (e .0) in
+    let k = and-both (cleanSpan i g) (cleanSpans (suc i) gs) c in
+    rw (none-placed m (suc i) (settle x s) (p + length g) gs ss (e .1), read-first m i x (none gs) g s v)
+    (candidates-read m i x h p (none gs) g gs s v t c a
+    ∙ ap (λ (ys : List Candidate). candidateIn i p (none gs) g ∷ ys)
+    (candidates-reads m (suc i) (settle x s) h (p + length g) gs ss (e .1) (shape-rest i g gs t) (k .1) (position-next i h p (length g) a (read-some m i x (none gs) g s v))))

@@ -44,7 +44,8 @@ count-inv h i x p r u e =
     let c = require-good (countFieldsRight h i x r) (countFieldsWrong p) _ u (b .1) in
     (a .0, (b .0, c .0))
 
-count-make : (h : Home) (i : ℕ) (x : Settled) (p : ℕ) (r : List ℕ) → countFits r ≡ true → countClosed r ≡ true → countFieldsRight h i x r ≡ true
+-- A count that fits, is closed and has its fields within the rule is judged good.
+pub count-make : (h : Home) (i : ℕ) (x : Settled) (p : ℕ) (r : List ℕ) → countFits r ≡ true → countClosed r ≡ true → countFieldsRight h i x r ≡ true
     → judgeCount h i x p r ≡ good tt
 unfolding judgeCount
 count-make h i x p r a b c = rw (a, b, c)
@@ -118,6 +119,14 @@ unfolding readSpan judgeSector readBlocks judgeFit
 read-short h zero x p last g o a b c f =
     require-holds (startsWith plainOpening g) (firstCountMissing p) _ (refused (spanTooShort p)) (o refl) (rw (count-make h 0 x p (drop 6 g) a b c, f))
 read-short h (suc i) x p last g o a b c f = rw (count-make h (suc i) x p (drop 8 g) a b c, f)
+
+-- A span whose count fits but is not closed is refused by 7.
+pub read-unclosed : (h : Home) (i : ℕ) (x : Settled) (p : ℕ) (last : Bool) (g : List ℕ) → (i ≡ 0 → startsWith plainOpening g ≡ true)
+    → countFits (restOf i g) ≡ true → countClosed (restOf i g) ≡ false → readSpan h i x p last g ≡ refused (countCheckWrong p)
+unfolding readSpan judgeSector judgeCount
+read-unclosed h zero x p last g o a b =
+    require-holds (startsWith plainOpening g) (firstCountMissing p) _ (refused (countCheckWrong p)) (o refl) (rw (a, b))
+read-unclosed h (suc i) x p last g o a b = rw (a, b)
 
 -- What reading tells of lengths: the blocks and the least gap lie in the span, and the key and the data are as long as the count says.
 pub record Lengths (i : ℕ) (last : Bool) (g : List ℕ) (s : Sector) : Type 0 where

@@ -1,16 +1,15 @@
 -- A span with other bytes behind its block: how it reads, where its block ends, and that it keeps its shape.
-use mathlib.Core.Path.{_≡_, refl, sym, ap, _∙_}
-use Prim.Native.Nat.{ℕ, zero, suc, _+_, _≤_}
+use mathlib.Core.Path.{_≡_, sym, ap, _∙_}
+use Prim.Native.Nat.{ℕ, _+_, _≤_}
 use native.Mathlib.Omega.{arith}
 use mathlib.Core.Bool.{Bool, true}
 use mathlib.Core.List.{List, [], _∷_, _++_, append-assoc}
 use lib.ListN.{length, take, drop, length-append, length-drop, take-append-drop}
-use lib.Seq.{length-take-le, take-append-add, drop-append-le}
+use lib.Seq.{length-take-le, take-add, drop-append-le}
 use lib.Dec.{leb}
 use Rattle.format.specs.Answer.{spanTooShort}
 use Rattle.format.specs.Judged.{good, require}
 use Rattle.format.specs.Lent.{unmarked}
-use Rattle.format.specs.Opening.{opens, markedOpening}
 use Rattle.format.specs.Home.{Home}
 use Rattle.format.specs.Count.{Settled}
 use Rattle.format.specs.Block.{blockEnd, leastGap}
@@ -19,9 +18,10 @@ use Rattle.format.specs.Blocks.{blocksAt}
 use Rattle.format.specs.Span.{cleanSpan}
 use Rattle.format.specs.Sector.{Sector, openingLength, isFirst, sectorIn, readSpan}
 use Rattle.format.specs.Accept.{endOf}
-use Rattle.format.proofs.Cells.Opening.{unmarked-append, unmarked-take, opens-front}
+use Rattle.format.proofs.Cells.Opening.{unmarked-append, unmarked-take}
 use Rattle.format.proofs.Spans.Shape.{Shape}
-use Rattle.format.proofs.Spans.Cutting.{later-unmarked, later-opening}
+use Rattle.format.proofs.Spans.SpanAgrees.{clean-behind}
+use Rattle.format.proofs.Sector.OtherRest.{withRest, clean-with-rest, shape-with-rest}
 use Rattle.format.proofs.Sector.BlockEnd.{end-taken}
 use Rattle.format.proofs.Sector.ReadSector.{restOf, read-inv, read-length}
 use Rattle.format.proofs.Sector.ReadPrefix.{read-gap}
@@ -74,31 +74,26 @@ module _ (i : ℕ) (g z : List ℕ) where
       let ends : blockEnd (xs ++ drop n g) ≡ length xs = omega (arith, ap blockEnd whole, length-drop o (take n g)) in
       omega (arith, ap blockEnd (front z), end-taken xs (drop n g) z ends, length-drop o (take n g))
 
-later-form : (i : ℕ) (g z : List ℕ) → opens g ≡ true → regapped (suc i) g z ≡ markedOpening ++ (take (blockEnd (drop 8 g)) (drop 8 g) ++ z)
-unfolding regapped blockPlace
-later-form i g z o =
-    let b : ℕ = blockEnd (drop 8 g) in
-    let r : List ℕ = drop 8 g in
-    let front : take (8 + b) g ≡ markedOpening ++ take b r = ap (take (8 + b)) (opens-front g o) ∙ take-append-add markedOpening r b in
-    ap (λ (y : List ℕ). y ++ z) front ∙ append-assoc markedOpening (take b r) z
+-- It is the span with other bytes behind its opening: those up to the block's end, and z.
+rest-form : (i : ℕ) (g z : List ℕ) → regapped i g z ≡ withRest i g (take (blockEnd (restOf i g)) (restOf i g) ++ z)
+unfolding regapped blockPlace withRest
+rest-form i g z =
+    let o : ℕ = openingLength (isFirst i) in
+    let b : ℕ = blockEnd (restOf i g) in
+    ap (λ (y : List ℕ). y ++ z) (take-add o b g) ∙ append-assoc (take o g) (take b (restOf i g)) z
 
-rest-unmarked : (r z : List ℕ) (n : ℕ) → unmarked r ≡ true → unmarked z ≡ true → unmarked (take n r ++ z) ≡ true
-rest-unmarked r z n u v = unmarked-append (take n r) z (unmarked-take n r u) v
+rest-unmarked : (i : ℕ) (g z : List ℕ) → cleanSpan i g ≡ true → unmarked z ≡ true → unmarked (take (blockEnd (restOf i g)) (restOf i g) ++ z) ≡ true
+rest-unmarked i g z c u =
+    let b : ℕ = blockEnd (restOf i g) in
+    unmarked-append (take b (restOf i g)) z (unmarked-take b (restOf i g) (clean-behind i g c)) u
 
 -- A span without stray marks stays without, where z has no mark.
 pub clean-regapped : (i : ℕ) (g z : List ℕ) → Shape i (g ∷ []) → cleanSpan i g ≡ true → unmarked z ≡ true → cleanSpan i (regapped i g z) ≡ true
-unfolding cleanSpan
-clean-regapped zero g z v c u = unfold regapped in rest-unmarked g z (blockPlace zero g) c u
-clean-regapped (suc i) g z v c u =
-    ap (λ (y : List ℕ). unmarked (drop 8 y)) (later-form i g z (v .0 .0)) ∙ rest-unmarked (drop 8 g) z (blockEnd (drop 8 g)) c u
+clean-regapped i g z v c u = ap (cleanSpan i) (rest-form i g z) ∙ clean-with-rest i g (take (blockEnd (restOf i g)) (restOf i g) ++ z) v c (rest-unmarked i g z c u)
 
 -- It keeps the shape of a span in its position.
 pub shape-regapped : (i : ℕ) (g z : List ℕ) → Shape i (g ∷ []) → cleanSpan i g ≡ true → unmarked z ≡ true → Shape i (regapped i g z ∷ [])
-unfolding cleanSpan opens
-shape-regapped zero g z v c u = (later-unmarked (regapped zero g z) (unfold regapped in rest-unmarked g z (blockPlace zero g) c u), tt)
-shape-regapped (suc i) g z v c u =
-    let r : List ℕ = take (blockEnd (drop 8 g)) (drop 8 g) ++ z in
-    rw (later-form i g z (v .0 .0)) ((refl, later-opening r (rest-unmarked (drop 8 g) z (blockEnd (drop 8 g)) c u)), tt)
+shape-regapped i g z v c u = rw (rest-form i g z) (shape-with-rest i g (take (blockEnd (restOf i g)) (restOf i g) ++ z) v c (rest-unmarked i g z c u))
 
 -- A sector that is read stands in the position of its span.
 pub read-first : (h : Home) (i : ℕ) (x : Settled) (p : ℕ) (last : Bool) (g : List ℕ) (s : Sector) → readSpan h i x p last g ≡ good s → s .first ≡ isFirst i

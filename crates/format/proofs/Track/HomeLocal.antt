@@ -40,7 +40,7 @@ home-window c h e =
 
 module _ (xs ys zs : List ℕ) where
   -- A home within xs is found whatever follows xs.
-  found-local : (n q p : ℕ) → homeFrom n q (xs ++ ys) ≡ good p → p + 6 ≤ length xs → homeFrom n q (xs ++ zs) ≡ good p
+  pub found-local : (n q p : ℕ) → homeFrom n q (xs ++ ys) ≡ good p → p + 6 ≤ length xs → homeFrom n q (xs ++ zs) ≡ good p
   unfolding homeFrom
   found-local zero q p e h = refused-good _ _ e
   found-local (suc n) q p e h =
