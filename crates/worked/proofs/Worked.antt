@@ -8,6 +8,7 @@ use lib.ListN.{length}
 use lib.Dec.{eqb}
 use borrow.Author.Tests.{eqb-true}
 use Rattle.crc.specs.Check.{digits, coefficients, divisor, bringDown, remainder, checkBytes}
+use Rattle.crc.specs.Burst.{alterBit}
 use Rattle.format.specs.Judged.{Judged, good, refused}
 use Rattle.format.specs.Lent.{lengthRight, marksLegal, lentForWriting, lentForReading, cells, bytesOf, marksOf, bothLent}
 use Rattle.format.specs.Opening.{opens, closing, closedAfter, checkFollows, closingFollows}
@@ -27,8 +28,8 @@ use Rattle.format.specs.Blank.{namedBy, blankRight, writtenHead, blankSector, b
 use Rattle.format.specs.Add.{judgeAbsent, addedFlag, addedSector, addedTo, addCells, add}
 use Rattle.format.specs.Correct.{withContent, rewrittenFrom, correctCells, correct}
 use Rattle.base.proofs.Tests.{and-both}
-use Rattle.worked.specs.Tracks.{address, blankOf, twoSectors, acceptOf, numbers, placesIn, places, placesOf, sectorOf, byHand, answerByHand, answerOfZeros, threeByHand, spoiledAt, answerSpoiled, closedGap, gapsByHand, placesByHand, answerWithoutZero, endIn, cellsOf, addedBehind, laidOutAfresh, recordNumbers, listedIn, piecesOf, piecesWritten, threeSectors, newZero, newOne, correctedBy, pairPieces, piecesAdded, zeroThenOne, oneThenZero}
-use Rattle.worked.specs.Table.{Case, sameNumbers, allHold, EachHolds, starred, further, faults, emptyBlocks, records, rules, twoRules}
+use Rattle.worked.specs.Tracks.{address, blankOf, twoSectors, acceptOf, numbers, placesIn, places, placesOf, sectorOf, byHand, answerByHand, answerOfZeros, threeByHand, spoiledAt, answerSpoiled, checkedHome, alteredAt, answerAltered, closedGap, gapsByHand, placesByHand, answerWithoutZero, endIn, cellsOf, addedBehind, laidOutAfresh, recordNumbers, listedIn, piecesOf, piecesWritten, threeSectors, newZero, newOne, correctedBy, pairPieces, piecesAdded, zeroThenOne, oneThenZero}
+use Rattle.worked.specs.Table.{Case, sameNumbers, allHold, EachHolds, starred, further, faults, emptyBlocks, records, rules, twoRules, bursts}
 use Rattle.format.specs.Blocks.{partAt, blocksAt, judgeFit}
 
 same-equal : (xs ys : List ℕ) → sameNumbers xs ys ≡ true → xs ≡ ys
@@ -48,7 +49,7 @@ each-holds (x ∷ cs) e =
     let h = and-both (sameNumbers (x .computed) (x .stated)) (allHold cs) e in
     (same-equal (x .computed) (x .stated) (h .0), each-holds cs (h .1))
 
-tables-pass : (allHold starred ≡ true) × (allHold further ≡ true) × (allHold faults ≡ true) × (allHold emptyBlocks ≡ true) × (allHold records ≡ true) × (allHold rules ≡ true) × (allHold twoRules ≡ true)
+tables-pass : (allHold starred ≡ true) × (allHold further ≡ true) × (allHold faults ≡ true) × (allHold emptyBlocks ≡ true) × (allHold records ≡ true) × (allHold rules ≡ true) × (allHold twoRules ≡ true) × (allHold bursts ≡ true)
 unfolding digits coefficients divisor bringDown remainder checkBytes
     lengthRight marksLegal lentForWriting lentForReading cells bytesOf marksOf opens closing closedAfter
     homeFlagRight sequenceRight countFlagRight namesItself addressIn addressBytes addressInRange sameAddress addressRight
@@ -62,7 +63,8 @@ unfolding digits coefficients divisor bringDown remainder checkBytes
     closedGap gapsByHand placesByHand answerWithoutZero endIn cellsOf addedBehind laidOutAfresh sameNumbers allHold starred further faults emptyBlocks
     listed list keyPieces blockLength sectorPieces recordPieces trackPieces recordNumbers listedIn piecesOf piecesWritten records
     gapTwo ruleRight wantedRight correct threeSectors newZero newOne correctedBy pairPieces piecesAdded zeroThenOne oneThenZero rules twoRules
-tables-pass = (refl, refl, refl, refl, refl, refl, refl)
+    alterBit checkedHome alteredAt answerAltered bursts
+tables-pass = (refl, refl, refl, refl, refl, refl, refl, refl)
 
 -- The starred worked numbers.
 pub starred-hold : EachHolds starred
@@ -91,6 +93,10 @@ rules-hold = each-holds rules (tables-pass .5)
 -- The table of two corrections by two rules.
 pub two-rules-hold : EachHolds twoRules
 two-rules-hold = each-holds twoRules (tables-pass .6)
+
+-- The table of altered bits.
+pub bursts-hold : EachHolds bursts
+bursts-hold = each-holds bursts (tables-pass .7)
 
 -- What has more than two pieces was written.
 pieces-written : (j : Judged Pair) → 2 < length (pairPieces j) → (p : Pair) × (j ≡ good p)

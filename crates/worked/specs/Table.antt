@@ -1,4 +1,4 @@
--- The worked numbers as one table: what the definitions compute beside what the scope document states; and tables of the second number, of the data block without information, of sector records, of the rule of the gap, and of two corrections by two rules.
+-- The worked numbers as one table: what the definitions compute beside what the scope document states; and tables of the second number, of the data block without information, of sector records, of the rule of the gap, of two corrections by two rules, and of altered bits.
 use mathlib.Core.Path.{_≡_}
 use Prim.Native.Nat.{ℕ}
 use mathlib.Core.Bool.{Bool, true, false, _&&_}
@@ -12,7 +12,7 @@ use Rattle.format.specs.Address.{addressBytes}
 use Rattle.format.specs.GapRule.{ruleOne, ruleTwo}
 use Rattle.format.specs.Add.{addCells}
 use Rattle.format.specs.Correct.{correctCells}
-use Rattle.worked.specs.Tracks.{address, blankOf, twoSectors, acceptOf, numbers, placesOf, answerByHand, answerOfZeros, threeByHand, answerSpoiled, closedGap, gapsByHand, placesByHand, answerWithoutZero, endIn, addedBehind, laidOutAfresh, listedIn, piecesOf, piecesWritten, pairPieces, piecesAdded, zeroThenOne, oneThenZero}
+use Rattle.worked.specs.Tracks.{address, blankOf, twoSectors, acceptOf, numbers, placesOf, answerByHand, answerOfZeros, threeByHand, answerSpoiled, checkedHome, alteredAt, answerAltered, closedGap, gapsByHand, placesByHand, answerWithoutZero, endIn, addedBehind, laidOutAfresh, listedIn, piecesOf, piecesWritten, pairPieces, piecesAdded, zeroThenOne, oneThenZero}
 
 -- A row of the table.
 pub record Case : Type 0 where
@@ -158,4 +158,24 @@ twoRules =
     ∷ record { computed = oneThenZero (ruleTwo 1 1) (ruleTwo 1 1); stated = 30 ∷ 14 ∷ 11 ∷ 18 ∷ 11 ∷ 17 ∷ 29 ∷ 20 ∷ 11 ∷ 12 ∷ 11 ∷ 89 ∷ 104 ∷ 20 ∷ 11 ∷ 7 ∷ 3491 ∷ [] }
     ∷ record { computed = zeroThenOne ruleOne ruleOne; stated = 30 ∷ 14 ∷ 11 ∷ 18 ∷ 11 ∷ 17 ∷ 21 ∷ 20 ∷ 11 ∷ 12 ∷ 11 ∷ 89 ∷ 25 ∷ 20 ∷ 11 ∷ 7 ∷ 3578 ∷ [] }
     ∷ record { computed = oneThenZero ruleOne ruleOne; stated = 30 ∷ 14 ∷ 11 ∷ 18 ∷ 11 ∷ 17 ∷ 21 ∷ 20 ∷ 11 ∷ 12 ∷ 11 ∷ 89 ∷ 25 ∷ 20 ∷ 11 ∷ 7 ∷ 3578 ∷ [] }
+    ∷ []
+
+-- Altered bits. Number 1's home with its check and the low bits of cylinder and head altered, which are sixteen apart; that this is cylinder 101 and head 6, whose check is the same.
+-- Then Accept's answer for the short track as it is; with one of those two bits of home altered, and with both: home passes, and 8 is for sector 0's count. One bit of a count, of a key and of data
+-- altered; sixteen in data and check; two bits sixteen apart in key and check and in data, which is accepted; two fifteen and seventeen apart in data.
+unfoldable pub bursts : List Case
+bursts =
+    record { computed = alteredAt (23 ∷ 39 ∷ []) (checkedHome 100 7); stated = 0x00 ∷ 0x00 ∷ 0x65 ∷ 0x00 ∷ 0x06 ∷ 0xFF ∷ 0x9C ∷ [] }
+    ∷ record { computed = checkedHome 101 6; stated = 0x00 ∷ 0x00 ∷ 0x65 ∷ 0x00 ∷ 0x06 ∷ 0xFF ∷ 0x9C ∷ [] }
+    ∷ record { computed = answerAltered []; stated = 0 ∷ 0 ∷ 0 ∷ [] }
+    ∷ record { computed = answerAltered (311 ∷ []); stated = 3 ∷ 0 ∷ 30 ∷ [] }
+    ∷ record { computed = answerAltered (311 ∷ 327 ∷ []); stated = 8 ∷ 0 ∷ 55 ∷ [] }
+    ∷ record { computed = answerAltered (1087 ∷ []); stated = 7 ∷ 0 ∷ 122 ∷ [] }
+    ∷ record { computed = answerAltered (1272 ∷ []); stated = 10 ∷ 2 ∷ 153 ∷ [] }
+    ∷ record { computed = answerAltered (1456 ∷ []); stated = 11 ∷ 2 ∷ 176 ∷ [] }
+    ∷ record { computed = answerAltered (1480 ∷ 1481 ∷ 1482 ∷ 1483 ∷ 1484 ∷ 1485 ∷ 1486 ∷ 1487 ∷ 1488 ∷ 1489 ∷ 1490 ∷ 1491 ∷ 1492 ∷ 1493 ∷ 1494 ∷ 1495 ∷ []); stated = 11 ∷ 2 ∷ 176 ∷ [] }
+    ∷ record { computed = answerAltered (1280 ∷ 1296 ∷ []); stated = 0 ∷ 0 ∷ 0 ∷ [] }
+    ∷ record { computed = answerAltered (1456 ∷ 1472 ∷ []); stated = 0 ∷ 0 ∷ 0 ∷ [] }
+    ∷ record { computed = answerAltered (1456 ∷ 1471 ∷ []); stated = 11 ∷ 2 ∷ 176 ∷ [] }
+    ∷ record { computed = answerAltered (1456 ∷ 1473 ∷ []); stated = 11 ∷ 2 ∷ 176 ∷ [] }
     ∷ []

@@ -3,6 +3,8 @@ use Prim.Native.Nat.{ℕ, _+_, _-_}
 use mathlib.Core.Bool.{Bool, true, false}
 use mathlib.Core.List.{List, [], _∷_, _++_, map}
 use lib.ListN.{length, take, drop, replicate}
+use Rattle.crc.specs.Check.{checkBytes}
+use Rattle.crc.specs.Burst.{alterBit}
 use Rattle.format.specs.Answer.{Answer}
 use Rattle.format.specs.Lent.{cells}
 use Rattle.format.specs.Judged.{Judged, good, refused, then, answerOf}
@@ -101,6 +103,19 @@ spoiledAt (p ∷ ps) c = spoiledAt ps (take p c ++ (0xA5 ∷ drop (p + 1) c))
 -- Number, second number and place of Accept's answer for that track spoiled at these places.
 unfoldable pub answerSpoiled : List ℕ → List ℕ
 answerSpoiled ps = let a : Answer = answerOf (acceptCells (spoiledAt ps threeByHand)) in a .number ∷ a .fault ∷ a .place ∷ []
+
+-- Information and check of the home of cylinder c and head h, flag 00.
+unfoldable pub checkedHome : ℕ → ℕ → List ℕ
+checkedHome c h = let info : List ℕ = 0x00 ∷ addressBytes (address c h) in info ++ checkBytes info
+
+-- The bytes c with their bits at the places is altered.
+unfoldable pub alteredAt : List ℕ → List ℕ → List ℕ
+alteredAt [] c = c
+alteredAt (i ∷ is) c = alteredAt is (alterBit i c)
+
+-- Number, second number and place of Accept's answer for that track with these bits altered.
+unfoldable pub answerAltered : List ℕ → List ℕ
+answerAltered is = let a : Answer = answerOf (acceptCells (alteredAt is threeByHand)) in a .number ∷ a .fault ∷ a .place ∷ []
 
 -- FF FF CC and n bytes FF behind it.
 unfoldable pub closedGap : ℕ → List ℕ

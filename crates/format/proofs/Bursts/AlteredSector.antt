@@ -18,7 +18,6 @@ use Rattle.format.proofs.Spans.SpanAgrees.{clean-behind}
 use Rattle.format.proofs.Track.AcceptedSpans.{Track, accepted-track}
 use Rattle.format.proofs.Track.Pairs.{accepted-pair, lent-length}
 use Rattle.format.proofs.Track.Sectors.{Distinct, numbersOf, numbers-distinct}
-use Rattle.format.proofs.Faults.AcceptFault.{ComesTo}
 use Rattle.format.proofs.Find.FindAccepted.{placedRest}
 use Rattle.format.proofs.Bursts.OneSpan.{placedStart, StandsIn, stands-in, otherRest}
 use Rattle.format.proofs.Bursts.Altered.{SameBut, CellParts, cell-parts, part-unmarked, putIn, length-put, unmarked-put, rest-within, put-within}

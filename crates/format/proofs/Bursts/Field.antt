@@ -1,17 +1,21 @@
--- A field of n information bytes, whatever n is: after a burst in information or check the check does not follow, and the field is not closed.
-use mathlib.Core.Path.{_≡_, refl, sym, ap, _∙_}
-use Prim.Native.Nat.{ℕ, _+_, _/_, _%_}
+-- A field of n information bytes, whatever n is: after a burst in information or check the check does not follow, and the field is not closed; after two bits sixteen apart it does.
+use mathlib.Core.Path.{_≡_, refl, sym, ap, _∙_, subst}
+use Prim.Native.Nat.{ℕ, suc, _+_, _/_, _%_, _≤_, _<_}
+use native.Mathlib.Omega.{arith}
 use mathlib.Core.Bool.{true, false, _&&_}
-use mathlib.Core.List.{List, _++_}
-use lib.ListN.{take, drop}
-use lib.Seq.{take-add, take-at}
+use mathlib.Core.List.{List, [], _∷_, _++_}
+use lib.ListN.{length, take, drop, getD, length-take, length-drop}
+use lib.Seq.{take-add, take-at, drop-cons, getD-take}
 use Rattle.base.proofs.Tests.{cases, false-true, and-both}
-use Rattle.crc.specs.Check.{coefficients, checkOf, checkBytes}
-use Rattle.crc.specs.Burst.{Burst}
-use Rattle.crc.proofs.Agreement.{stored-agrees}
+use Rattle.crc.specs.Check.{coefficients, checkOf, checkBytes, agrees}
+use Rattle.crc.specs.Burst.{Burst, TwoApart}
+use Rattle.crc.proofs.Coefficients.{coefficients-length}
+use Rattle.crc.proofs.Agreement.{agrees-stored, stored-agrees}
 use Rattle.crc.proofs.Burst.{burst-caught}
+use Rattle.crc.proofs.TwoApart.{two-apart-agree}
+use Rattle.format.specs.Lent.{unmarked}
 use Rattle.format.specs.Opening.{closedAfter, checkFollows, closingFollows}
-use Rattle.format.proofs.Cells.Opening.{starts-with-front}
+use Rattle.format.proofs.Cells.Opening.{starts-with-self, starts-with-front, starts-length, unmarked-at}
 use Rattle.format.proofs.Cells.Field.{closed-parts}
 
 -- Where the check follows n information bytes, these and the next two are the information and its check.
@@ -39,3 +43,21 @@ pub burst-closed : (n : ℕ) (c d : List ℕ) → closedAfter n c ≡ true → B
 burst-closed n c d e b =
     let k = and-both (checkFollows n c) (closingFollows n c) (sym (closed-parts n c) ∙ e) in
     closed-parts n d ∙ ap (λ t. t && closingFollows n d) (burst-check n c d (k .0) b)
+
+-- What gets through: two bits of information and check that are sixteen apart, wherever they stand. The check follows as before.
+pub two-apart-check : (n : ℕ) (c d : List ℕ) (i : ℕ) → checkFollows n c ≡ true → unmarked (take (n + 2) d) ≡ true
+    → TwoApart 16 i (coefficients (take (n + 2) c)) (coefficients (take (n + 2) d)) → checkFollows n d ≡ true
+unfolding checkFollows checkBytes
+two-apart-check n c d i e u a =
+    let bs : List ℕ = take n c in
+    let cs : List ℕ = take n d in
+    let high : ℕ = getD d n 0 in
+    let low : ℕ = getD d (suc n) 0 in
+    let enough : 2 ≤ length (drop n c) = starts-length (checkBytes bs) (drop n c) e in
+    let long : n + 2 ≤ length d = omega (arith, a .same-length, coefficients-length (take (n + 2) c), coefficients-length (take (n + 2) d), length-take (n + 2) c, length-take (n + 2) d, length-drop n c) in
+    let rest : drop n d ≡ high ∷ low ∷ drop (suc (suc n)) d = drop-cons d n 0 (omega arith) ∙ ap (λ (r : List ℕ). high ∷ r) (drop-cons d (suc n) 0 (omega arith)) in
+    let field : take (n + 2) d ≡ cs ++ high ∷ low ∷ [] = take-add n 2 d ∙ ap (λ (r : List ℕ). cs ++ take 2 r) rest in
+    let byte : (j : ℕ) → j < n + 2 → getD d j 0 < 256 = λ j l. subst (λ (x : ℕ). x < 256) (getD-take (n + 2) d j 0 l) (unmarked-at (take (n + 2) d) j u) in
+    let agree : agrees cs high low ≡ true = two-apart-agree bs cs (checkOf bs / 256) (checkOf bs % 256) high low i (stored-agrees bs _ _ refl) (byte n (omega arith)) (byte (suc n) (omega arith))
+    (rw (check-field n c e, field) at a) in
+    rw (agrees-stored cs high low agree, rest) (starts-with-self (high ∷ low ∷ []) (drop (suc (suc n)) d))

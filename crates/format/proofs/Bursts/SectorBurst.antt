@@ -39,7 +39,7 @@ module _ (t m u : List ℕ) (a : Accepted) (y : Placed) (q off n : ℕ) (v : Alt
   abbrev pub reached : Reached
   reached = record { position = v .stands .position; shared = v .stands .shared; place = y .place; last = v .stands .last; span = withRest (v .stands .position) (y .span) (v .rest) }
 
-  -- It is on the track u that Accept does.
+  -- On the track u home and marks are judged as before, and Accept comes to that span.
   pub reached-on : (judgeHome (cells u m) ≡ good (a .home)) × (judgeMarks (firstCountEnd (a .home .place)) 0 0 (cells u m) ≡ good tt)
       × ComesTo (a .home) 0 unsettled (firstCountPlace (a .home .place)) (spansOf (a .home) (cells u m)) reached
   reached-on =
@@ -58,6 +58,7 @@ module _ (t m u : List ℕ) (a : Accepted) (y : Placed) (q off n : ℕ) (v : Alt
   reached-rest : restReached reached ≡ v .rest
   reached-rest = rest-with (v .stands .position) (y .span) (v .rest) (omega (arith, opening-in))
 
+  -- Sector 0's count still opens.
   reached-opened : v .stands .position ≡ 0 → startsWith plainOpening (withRest (v .stands .position) (y .span) (v .rest)) ≡ true
   reached-opened = opened-with (v .stands .position) (y .span) (v .rest) (omega (arith, opening-in)) (v .stands .read .opened)
 
@@ -118,14 +119,16 @@ module _ (t m u : List ℕ) (a : Accepted) (y : Placed) (q off n : ℕ) (v : Alt
     now : {X : Type 0} (f : List ℕ → X) → f (xs ++ (zs ++ back)) ≡ f (xs ++ (ys ++ back)) → f (v .rest) ≡ f (placedRest y)
     now f q = ap f (v .rest-is) ∙ q ∙ ap f (sym (v .rest-was))
 
-    -- Before that the blocks did fit and were sound.
+    -- The blocks did fit,
     fit-was : blocksFit (v .stands .last) (placedRest y) ≡ true
     fit-was = ap (blocksFit (v .stands .last)) was-rest ∙ v .stands .read .blocks-fit
 
+    -- and were sound.
     was-test : (x : Wanted) → testOf x (placedRest y) ≡ sound
     was-test theKey = ap testKey was-rest ∙ v .stands .read .key-right
     was-test theData = ap testData was-rest ∙ v .stands .read .data-right
 
+    -- So it is.
     pub block-read : BlockRead
     block-read =
         let r : List ℕ = placedRest y in
@@ -150,7 +153,6 @@ module _ (t m u : List ℕ) (a : Accepted) (y : Placed) (q off n : ℕ) (v : Alt
     pub block-accept : (p : ℕ) → p ≡ placedStart y + offsetOf w (placedRest y) → accept u m ≡ refused (wrongAt w checkWrong p)
     block-accept p at =
         let k : BlockRead = block-read in
-        let o : ℕ = openingLength (isFirst (v .stands .position)) in
         faulty-accept u m w checkWrong p
         (record {
           home = a .home;

@@ -1,6 +1,7 @@
 //! Seeds, tallies, buffers and wanted fields of the comparisons; each test file uses a part.
 #![allow(dead_code)]
 
+pub mod bursts;
 pub mod by_both;
 pub mod sectors;
 
