@@ -6,8 +6,7 @@ use mathlib.Core.List.{List}
 use lib.ListN.{length, getD, take, drop, length-take, length-drop}
 use Rattle.format.specs.Lent.{cells, bytesOf}
 use Rattle.format.proofs.Cells.Opening.{unmarked-take, unmarked-drop, unmarked-below}
-use Rattle.format.proofs.Track.Pairs.{bytes-cells, length-cells, drop-cells}
-use Rattle.search.proofs.Cells.{take-cells}
+use Rattle.format.proofs.Track.Pairs.{bytes-cells, length-cells, drop-cells, take-cells}
 
 -- The bytes of k cells from place n on are those of the track.
 pub taken-bytes : (t m : List ℕ) (n k : ℕ) → ((i : ℕ) → getD t i 0 < 256) → n + k ≤ length (cells t m) → bytesOf (take k (drop n (cells t m))) ≡ take k (drop n t)

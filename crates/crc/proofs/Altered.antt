@@ -1,10 +1,10 @@
--- Two bits altered sixteen apart, at any place of information of any length with its check, leave them in agreement.
+-- Bits altered at any place of information of any length with its check: with one the two no longer agree, with two that are sixteen apart they do.
 use mathlib.Core.Path.{_≡_, refl, sym, ap, ap₂, _∙_}
 use mathlib.Core.Logic.{inl, inr}
 use Prim.Native.Nat.{ℕ, zero, suc, _+_, _-_, _*_, _/_, _%_, _^_, _≤_, _<_}
 use native.Mathlib.Omega.{arith}
 use native.Mathlib.Numerals.{add-one}
-use mathlib.Core.Bool.{true}
+use mathlib.Core.Bool.{true, false}
 use mathlib.Core.List.{List, [], _∷_, _++_}
 use lib.Dec.{ltb, eqb}
 use lib.ListN.{length, getD, take, set, length-set, length-append, drop-of-length-le, List·getD-append}
@@ -14,13 +14,14 @@ use lib.Pow.{pow-lt}
 use borrow.Author.Tests.{ltb-true, ltb-false, eqb-true, eqb-false}
 use Rattle.base.proofs.Tests.{cases}
 use Rattle.crc.specs.Check.{digits, coefficients, checkOf, checkBytes, agrees}
-use Rattle.crc.specs.Burst.{fieldBits, TwoApart, alterBit}
+use Rattle.crc.specs.Burst.{checkedBits, Burst, TwoApart, alterBit}
 use Rattle.crc.proofs.Xor.{xor-cancel}
 use Rattle.crc.proofs.Coefficients.{coefficients-length}
 use Rattle.crc.proofs.Check.{check-lt}
 use Rattle.crc.proofs.Agreement.{stored-agrees}
 use Rattle.crc.proofs.Linear.{sums}
-use Rattle.crc.proofs.TwoApart.{two-apart-agree}
+use Rattle.crc.proofs.Burst.{burst-caught}
+use Rattle.crc.proofs.TwoApart.{two-apart-agree, two-apart-burst}
 
 -- The bits with the one at place i altered.
 abbrev alterAt : ℕ → List ℕ → List ℕ
@@ -72,8 +73,8 @@ coefficients-altered i (b ∷ bs) =
     rw e (ap (λ (cs : List ℕ). digits 8 b ++ cs) (coefficients-altered (i - 8) bs) ∙ sym (alter-behind (digits 8 b) (coefficients bs) i h)))
 
 -- Bytes with a bit altered are as many.
-length-altered : (i : ℕ) (bs : List ℕ) → length (alterBit i bs) ≡ length bs
-length-altered i bs =
+altered-length : (i : ℕ) (bs : List ℕ) → length (alterBit i bs) ≡ length bs
+altered-length i bs =
     let xs : List ℕ = coefficients bs in
     let same : length (coefficients (alterBit i bs)) ≡ length xs = ap length (coefficients-altered i bs) ∙ length-set xs i (bitXor (getD xs i 0) 1) in
     omega (arith, coefficients-length bs, coefficients-length (alterBit i bs))
@@ -111,6 +112,18 @@ alter-two i xs h =
           (λ f. absurd (d (sym (getD-set-other ys j k y 0 (eqb-false k j f) ∙ getD-set-other xs i k x 0 (eqb-false k i e))))));
     }
 
+-- Bits with the one at place i altered differ there and nowhere else, which is a burst.
+alter-one : (i : ℕ) (xs : List ℕ) → i < length xs → Burst 16 xs (alterAt i xs)
+alter-one i xs h =
+    let x : ℕ = bitXor (getD xs i 0) 1 in
+    record {
+      same-length = sym (length-set xs i x);
+      start = i;
+      within = λ k d. cases (eqb k i) (λ e. let same = eqb-true k i e in (omega arith, omega arith)) (λ e. absurd (d (sym (getD-set-other xs i k x 0 (eqb-false k i e)))));
+      place = i;
+      differs = λ e. bit-altered (getD xs i 0) (e ∙ getD-set-same xs i x 0 h);
+    }
+
 -- A list is what stands before its last two elements, and these.
 last-two : (n : ℕ) (f : List ℕ) → length f ≡ n + 2 → take n f ++ getD f n 0 ∷ getD f (suc n) 0 ∷ [] ≡ f
 last-two n f e =
@@ -118,11 +131,29 @@ last-two n f e =
     ∙ ap (λ (r : List ℕ). take n f ++ getD f n 0 ∷ r)
     (drop-cons f (suc n) 0 (omega arith) ∙ ap (λ (r : List ℕ). getD f (suc n) 0 ∷ r) (drop-of-length-le f {i = suc (suc n)} (omega arith))))
 
+-- Information bytes of any length with their check: whatever place i, with bit i altered the check does not agree.
+pub one-bit-caught : (bs : List ℕ) (i : ℕ) → i < 8 * (length bs + 2)
+    → (cs : List ℕ) × (high : ℕ) × (low : ℕ) × (cs ++ high ∷ low ∷ [] ≡ alterBit i (bs ++ checkBytes bs)) × (agrees cs high low ≡ false)
+unfolding checkBytes
+one-bit-caught bs i h =
+    let n : ℕ = length bs in
+    let c : ℕ = checkOf bs in
+    let before : List ℕ = bs ++ checkBytes bs in
+    let after : List ℕ = alterBit i before in
+    let cs : List ℕ = take n after in
+    let high : ℕ = getD after n 0 in
+    let low : ℕ = getD after (suc n) 0 in
+    let long : length before ≡ n + 2 = length-append bs (checkBytes bs) in
+    let whole : cs ++ high ∷ low ∷ [] ≡ after = last-two n after (altered-length i before ∙ long) in
+    let bits : checkedBits cs high low ≡ alterAt i (coefficients before) = ap coefficients whole ∙ coefficients-altered i before in
+    let burst : Burst 16 (checkedBits bs (c / 256) (c % 256)) (checkedBits cs high low) = rw bits (alter-one i (coefficients before) (omega (arith, long, coefficients-length before))) in
+    (cs, high, low, whole, burst-caught bs cs (c / 256) (c % 256) high low (stored-agrees bs (c / 256) (c % 256) refl) burst)
+
 -- Information bytes of any length with their check: whatever place i, bit i and bit i + 16 altered, the check agrees all the same.
 pub two-bits-pass : (bs : List ℕ) (i : ℕ) → i + 16 < 8 * (length bs + 2)
     → (cs : List ℕ) × (high : ℕ) × (low : ℕ)
     × (cs ++ high ∷ low ∷ [] ≡ alterBit (i + 16) (alterBit i (bs ++ checkBytes bs)))
-    × TwoApart 16 i (fieldBits bs (checkOf bs / 256) (checkOf bs % 256)) (fieldBits cs high low)
+    × TwoApart 16 i (checkedBits bs (checkOf bs / 256) (checkOf bs % 256)) (checkedBits cs high low)
     × (agrees cs high low ≡ true)
 unfolding checkBytes
 two-bits-pass bs i h =
@@ -134,11 +165,18 @@ two-bits-pass bs i h =
     let high : ℕ = getD after n 0 in
     let low : ℕ = getD after (suc n) 0 in
     let long : length before ≡ n + 2 = length-append bs (checkBytes bs) in
-    let whole : cs ++ high ∷ low ∷ [] ≡ after = last-two n after (length-altered (i + 16) (alterBit i before) ∙ length-altered i before ∙ long) in
+    let whole : cs ++ high ∷ low ∷ [] ≡ after = last-two n after (altered-length (i + 16) (alterBit i before) ∙ altered-length i before ∙ long) in
     let byte : (j : ℕ) → getD before j 0 < 256 → getD after j 0 < 256 = λ j k. byte-kept (i + 16) j (alterBit i before) (byte-kept i j before k) in
     let hh : high < 256 = byte n (omega (arith, getD-append-seam bs (c / 256) (c % 256 ∷ []) 0, check-lt bs)) in
     let hl : low < 256 = byte (suc n) (rw (← (add-one n), getD-append-add bs (checkBytes bs) 1 0) (omega arith)) in
-    let bits : fieldBits cs high low ≡ alterAt (i + 16) (alterAt i (coefficients before)) = ap coefficients whole ∙ coefficients-altered (i + 16) (alterBit i before) ∙ ap (alterAt (i + 16)) (coefficients-altered i before) in
-    let apart : TwoApart 16 i (fieldBits bs (c / 256) (c % 256)) (fieldBits cs high low) = rw bits (alter-two i (coefficients before) (omega (arith, long, coefficients-length before))) in
+    let bits : checkedBits cs high low ≡ alterAt (i + 16) (alterAt i (coefficients before)) = ap coefficients whole ∙ coefficients-altered (i + 16) (alterBit i before) ∙ ap (alterAt (i + 16)) (coefficients-altered i before) in
+    let apart : TwoApart 16 i (checkedBits bs (c / 256) (c % 256)) (checkedBits cs high low) = rw bits (alter-two i (coefficients before) (omega (arith, long, coefficients-length before))) in
     let agree : agrees bs (c / 256) (c % 256) ≡ true = stored-agrees bs (c / 256) (c % 256) refl in
     (cs, high, low, whole, apart, two-apart-agree bs cs (c / 256) (c % 256) high low i agree hh hl apart)
+
+-- So of seventeen bits the law of bursts is false: for any information of one byte or more there is a burst of seventeen bits after which it agrees with its check.
+pub seventeen-pass : (bs : List ℕ) → 0 < length bs
+    → (cs : List ℕ) × (high : ℕ) × (low : ℕ) × Burst 17 (checkedBits bs (checkOf bs / 256) (checkOf bs % 256)) (checkedBits cs high low) × (agrees cs high low ≡ true)
+seventeen-pass bs h =
+    let (cs, high, low, _, apart, agree) = two-bits-pass bs 0 (omega arith) in
+    (cs, high, low, two-apart-burst 0 _ _ apart, agree)

@@ -1,4 +1,4 @@
--- The coefficients of bytes are 0 and 1, eight for each byte, and go by parts of the bytes.
+-- The coefficients of bytes: each is 0 or 1, there are eight for each byte, and those of two parts are those of each in turn.
 use mathlib.Core.Path.{_≡_, refl, sym, ap, _∙_}
 use Prim.Native.Nat.{ℕ, zero, suc, _*_, _/_, _^_}
 use native.Mathlib.Omega.{arith}

@@ -12,7 +12,7 @@ pub mod Halves
 pub mod Check
 pub mod Before
 pub mod Agreement
-pub mod Together
+pub mod Checked
 pub mod Burst
 pub mod TwoApart
 pub mod Altered

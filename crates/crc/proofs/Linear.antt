@@ -11,7 +11,7 @@ use Rattle.crc.specs.Burst.{DiffersAt}
 use Rattle.crc.proofs.Xor.{xor-middle, xor-zero-same}
 use Rattle.crc.proofs.Remainder.{bring-is, bring-lt}
 
--- The sum of two lists of coefficients, place by place: 1 exactly where they differ.
+-- The sum of two lists of coefficients over GF(2), place by place, as far as both go.
 unfoldable pub sums : List ℕ → List ℕ → List ℕ
 sums [] ys = []
 sums (x ∷ xs) [] = []

@@ -8,7 +8,7 @@ use Rattle.crc.specs.Check.{bringDown, remainder}
 use Rattle.crc.specs.Division.{Digits}
 use Rattle.crc.proofs.Turn.{bring-turn}
 
--- What bringing down a coefficient makes of any remainder: its top digit comes round, and the coefficient is added to it.
+-- What bringing down a coefficient makes of any remainder: its other digits move up, and its top digit, with the coefficient added, becomes the lowest.
 pub bring-is : (r c : ℕ) → r < 65536 → c < 2 → bringDown r c ≡ r % 32768 * 2 + bitXor (r / 32768) c
 bring-is r c h k =
     ap (λ (z : ℕ). bringDown z c) (omega arith) ∙ bring-turn (r / 32768) (r % 32768) c (omega arith) (omega arith) k

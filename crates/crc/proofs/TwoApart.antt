@@ -11,15 +11,15 @@ use lib.ListN.{getD}
 use lib.Pow.{pow-lt}
 use Rattle.crc.specs.Check.{bringDown, remainder, agrees}
 use Rattle.crc.specs.Division.{Digits}
-use Rattle.crc.specs.Burst.{fieldBits, Burst, TwoApart}
+use Rattle.crc.specs.Burst.{checkedBits, Burst, TwoApart}
 use Rattle.crc.proofs.Xor.{xor-zero-same}
 use Rattle.crc.proofs.Coefficients.{coefficients-digits}
 use Rattle.crc.proofs.Turn.{bring-turn, shifted}
 use Rattle.crc.proofs.Linear.{sums, sums-digits, sum-differs, differs-sum, remainder-sum}
-use Rattle.crc.proofs.Together.{agrees-ones, ones-agree}
+use Rattle.crc.proofs.Checked.{agrees-ones, ones-agree}
 use Rattle.crc.proofs.Burst.{zero-unless}
 
--- Zeros leave nothing.
+-- The remainder of zeros is 0.
 zeros-nothing : (ds : List ℕ) → Digits ds → ((i : ℕ) → getD ds i 0 ≡ 0) → remainder 0 ds ≡ 0
 unfolding remainder Digits
 zeros-nothing [] d z = refl
@@ -40,7 +40,7 @@ second-cancels (suc n) j (c ∷ ds) l d o z =
     let t : bringDown (2 ^ j) c ≡ 2 ^ suc j = omega (arith, shifted (2 ^ j) c small (d .0), z 0 (λ q. omega arith), pow-suc 2 j) in
     rw t (second-cancels n (suc j) ds (omega arith) (d .1) o (λ i q. z (suc i) (λ e. q (omega arith))))
 
--- Two ones sixteen apart leave nothing.
+-- The remainder of two ones sixteen apart, and zeros besides, is 0.
 two-cancel : (i : ℕ) (ds : List ℕ) → Digits ds → (getD ds i 0 ≡ 0 → ⊥) → (getD ds (i + 16) 0 ≡ 0 → ⊥) → ((j : ℕ) → (j ≡ i → ⊥) → (j ≡ i + 16 → ⊥) → getD ds j 0 ≡ 0)
     → remainder 0 ds ≡ 0
 unfolding remainder Digits
@@ -69,13 +69,13 @@ remainders-same i xs ys dx dy p =
 
 -- Information of any length that agrees with its check still agrees after two bits of both, sixteen apart, are altered.
 pub two-apart-agree : (bs cs : List ℕ) (high low high′ low′ i : ℕ) → agrees bs high low ≡ true → high′ < 256 → low′ < 256
-    → TwoApart 16 i (fieldBits bs high low) (fieldBits cs high′ low′) → agrees cs high′ low′ ≡ true
+    → TwoApart 16 i (checkedBits bs high low) (checkedBits cs high′ low′) → agrees cs high′ low′ ≡ true
 two-apart-agree bs cs high low high′ low′ i e hh hl p =
     ones-agree cs high′ low′ hh hl
-    (sym (remainders-same i (fieldBits bs high low) (fieldBits cs high′ low′) (coefficients-digits (bs ++ high ∷ low ∷ [])) (coefficients-digits (cs ++ high′ ∷ low′ ∷ [])) p)
+    (sym (remainders-same i (checkedBits bs high low) (checkedBits cs high′ low′) (coefficients-digits (bs ++ high ∷ low ∷ [])) (coefficients-digits (cs ++ high′ ∷ low′ ∷ [])) p)
     ∙ agrees-ones bs high low e)
 
--- Such an alteration is a burst of seventeen bits: a law like that of sixteen does not hold of them.
+-- Two bits sixteen apart are a burst of seventeen bits.
 pub two-apart-burst : (i : ℕ) (xs ys : List ℕ) → TwoApart 16 i xs ys → Burst 17 xs ys
 two-apart-burst i xs ys p =
     record { same-length = p .same-length; start = i; within = λ j d. go j (p .nowhere-else j d); place = i; differs = p .first }

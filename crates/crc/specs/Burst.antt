@@ -9,9 +9,9 @@ use lib.Bits.{bitXor}
 use Rattle.base.specs.Pick.{pick}
 use Rattle.crc.specs.Check.{coefficients}
 
--- The bits of information bytes and of the two bytes of a check behind them, first bit first.
-abbrev pub fieldBits : List ℕ → ℕ → ℕ → List ℕ
-fieldBits bs high low = coefficients (bs ++ high ∷ low ∷ [])
+-- The bits of information bytes and of the two bytes of the check behind them, in a row and first bit first.
+abbrev pub checkedBits : List ℕ → ℕ → ℕ → List ℕ
+checkedBits bs high low = coefficients (bs ++ high ∷ low ∷ [])
 
 -- The bits xs and ys differ at place i.
 abbrev pub DiffersAt : List ℕ → List ℕ → ℕ → Type 0
@@ -20,8 +20,10 @@ DiffersAt xs ys i = getD xs i 0 ≡ getD ys i 0 → ⊥
 -- A burst of k bits makes ys out of xs: they are as many, some k successive places hold every place where they differ, and there is such a place.
 pub record Burst (k : ℕ) (xs ys : List ℕ) : Type 0 where
   pub same-length : length xs ≡ length ys
+  -- The first of the k places,
   pub start : ℕ
   pub within : (i : ℕ) → DiffersAt xs ys i → (start ≤ i) × (i < start + k)
+  -- and one where they differ.
   pub place : ℕ
   pub differs : DiffersAt xs ys place
 

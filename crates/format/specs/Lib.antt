@@ -26,5 +26,6 @@ pub mod Add
 pub mod Correct
 pub mod Together
 pub mod BlockFault
+pub mod Burst
 pub mod Answer
 pub mod Judged

@@ -5,7 +5,7 @@ use mathlib.Core.Bool.{false}
 use mathlib.Core.List.{List, [], _∷_}
 use native.Mathlib.Nat.{le-of-suc-le-suc}
 use native.Mathlib.Omega.{arith}
-use lib.ListN.{length, getD, take, drop}
+use lib.ListN.{length, getD, drop}
 use Rattle.format.specs.Lent.{cells}
 use Rattle.format.specs.Opening.{startsWith}
 use Rattle.format.proofs.Cells.Opening.{starts-other, starts-same}
@@ -17,14 +17,6 @@ getD-cells [] m i h = absurd (omega arith)
 getD-cells (b ∷ t) [] i h = absurd (omega arith)
 getD-cells (b ∷ t) (k ∷ m) zero h = refl
 getD-cells (b ∷ t) (k ∷ m) (suc i) h = getD-cells t m i (le-of-suc-le-suc h)
-
--- The first n cells are those of what both lists start with.
-pub take-cells : (n : ℕ) (t m : List ℕ) → take n (cells t m) ≡ cells (take n t) (take n m)
-unfolding cells
-take-cells zero t m = refl
-take-cells (suc n) [] m = refl
-take-cells (suc n) (b ∷ t) [] = refl
-take-cells (suc n) (b ∷ t) (k ∷ m) = ap (λ (c : List ℕ). (b + 256 * k) ∷ c) (take-cells n t m)
 
 -- An opening with the bytes u and the marks v, compared with a track t with the marks m byte by byte and mark by mark.
 module _ (u v t m : List ℕ) (p k : ℕ) (h : k < length (cells u v)) (l : p + k < length (cells t m)) (a : getD u k 0 < 256) (b : getD t (p + k) 0 < 256) where

@@ -3,7 +3,7 @@ use mathlib.Core.Path.{_≡_}
 use Prim.Native.Nat.{ℕ}
 use mathlib.Core.Bool.{Bool, true, false, _&&_}
 use mathlib.Core.List.{List, [], _∷_, _++_}
-use lib.ListN.{replicate}
+use lib.ListN.{take, replicate}
 use lib.Dec.{eqb}
 use Rattle.crc.specs.Check.{checkBytes}
 use Rattle.format.specs.Judged.{answerOf}
@@ -160,12 +160,14 @@ twoRules =
     ∷ record { computed = oneThenZero ruleOne ruleOne; stated = 30 ∷ 14 ∷ 11 ∷ 18 ∷ 11 ∷ 17 ∷ 21 ∷ 20 ∷ 11 ∷ 12 ∷ 11 ∷ 89 ∷ 25 ∷ 20 ∷ 11 ∷ 7 ∷ 3578 ∷ [] }
     ∷ []
 
--- Altered bits. Number 1's home with its check and the low bits of cylinder and head altered, which are sixteen apart; that this is cylinder 101 and head 6, whose check is the same.
+-- Altered bits. Information and check of number 1's home with the low bits of cylinder and head altered, which are sixteen apart; that the check is that of the altered information; that this is the home of
+-- cylinder 101 and head 6.
 -- Then Accept's answer for the short track as it is; with one of those two bits of home altered, and with both: home passes, and 8 is for sector 0's count. One bit of a count, of a key and of data
 -- altered; sixteen in data and check; two bits sixteen apart in key and check and in data, which is accepted; two fifteen and seventeen apart in data.
 unfoldable pub bursts : List Case
 bursts =
     record { computed = alteredAt (23 ∷ 39 ∷ []) (checkedHome 100 7); stated = 0x00 ∷ 0x00 ∷ 0x65 ∷ 0x00 ∷ 0x06 ∷ 0xFF ∷ 0x9C ∷ [] }
+    ∷ record { computed = checkBytes (take 5 (alteredAt (23 ∷ 39 ∷ []) (checkedHome 100 7))); stated = 0xFF ∷ 0x9C ∷ [] }
     ∷ record { computed = checkedHome 101 6; stated = 0x00 ∷ 0x00 ∷ 0x65 ∷ 0x00 ∷ 0x06 ∷ 0xFF ∷ 0x9C ∷ [] }
     ∷ record { computed = answerAltered []; stated = 0 ∷ 0 ∷ 0 ∷ [] }
     ∷ record { computed = answerAltered (311 ∷ []); stated = 3 ∷ 0 ∷ 30 ∷ [] }

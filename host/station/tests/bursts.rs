@@ -5,7 +5,7 @@
 mod common;
 
 use common::bursts::*;
-use common::{answer, lent, noise, Track};
+use common::{answer, lent, noise, Tally, Track};
 use reference::check::check;
 use reference::generate::{sound, Rng};
 use station::{Address, Answer, Lent, NewSector, NewTrack};
@@ -20,7 +20,7 @@ fn tell(name: &str, tried: &Tried) {
     writeln!(std::io::stderr(), "{name}: {tried:?}").expect("standard error takes a line");
 }
 
-/// Says it, and demands so many of each kind.
+/// Says it, and demands so many of each kind: for each pattern and field as many as the field has bits, less the pattern's width, and one.
 fn finish<const N: usize>(name: &str, tried: Tried, wanted: [(Kind, usize); N]) {
     tell(name, &tried);
     assert_eq!(tried, Tried::from(wanted), "{name}");
@@ -113,7 +113,7 @@ fn of_each_width(patterns: &[u32]) -> Vec<usize> {
 fn patterns_are_distinct() {
     let many = [1, 1, 2, 4, 8, 16, 32, 64, 22, 22, 22, 22, 22, 22, 22, 22, 0];
     assert_eq!(of_each_width(&patterns(8, 20)), many);
-    assert_eq!(many.iter().sum::<usize>(), 304);
+    assert_eq!(patterns(8, 20).len(), 304);
     let few = [1, 1, 2, 2, 2, 2, 2, 2, 2, 2, 2, 2, 2, 2, 2, 2, 0];
     assert_eq!(of_each_width(&patterns(2, 0)), few);
 }
@@ -176,11 +176,14 @@ fn any_change(rng: &mut Rng, field: Field) -> Change {
     }
 }
 
-/// Four changes in one field of each kind, on tracks of every flag with up to 67 sectors.
+/// Four changes in one field of each kind, on generated tracks.
 #[test]
 fn bursts_on_generated_tracks() {
-    let mut tried = Tried::new();
-    for seed in 0..1_000 {
+    let (seeds, mut tried) = (
+        Tally::new("bursts on generated tracks", 1_000).seeds(),
+        Tried::new(),
+    );
+    for seed in seeds {
         let (track, mut rng) = (sound(seed), Rng::new(seed ^ 0xB175_0000));
         let mut fields = fields_of(&track);
         while !fields.is_empty() {
@@ -220,7 +223,8 @@ fn count_passes(altered: Lent, change: Change) {
         "{change:?}"
     );
     let judged = accepted(altered, change);
-    assert!(![0, 7].contains(&judged.number), "{judged}, {change:?}");
+    let allowed = [8, 9, 10, 11];
+    assert!(allowed.contains(&judged.number), "{judged}, {change:?}");
     let missing = Err(answer(12, 0));
     let now = both_found(altered, ours.s, change);
     assert!(!now.contains(&missing), "{change:?}");

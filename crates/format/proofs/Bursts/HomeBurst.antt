@@ -17,7 +17,7 @@ use Rattle.format.specs.Home.{Home, findHome, homeBytes, judgeHomeOf, ju
 use Rattle.format.proofs.Base.Judged.{then-good, require-good}
 use Rattle.format.proofs.Track.HomeLocal.{judged-place, found-local}
 use Rattle.format.proofs.Track.Pairs.{bytes-unmarked}
-use Rattle.format.proofs.Bursts.Field.{burst-closed}
+use Rattle.format.proofs.Bursts.Field.{burst-unclosed}
 
 -- Information and check of the home at p, which stand behind xs.
 home-info : (p : ℕ) (xs vs back : List ℕ) → length xs ≡ p + 6 → length vs ≡ 7 → unmarked vs ≡ true → take 7 (homeBytes p (xs ++ (vs ++ back))) ≡ vs
@@ -40,4 +40,4 @@ home-burst h xs ys zs back l a b u v e k =
     let at : length xs ≡ p + 6 = omega arith in
     let closed : closedAfter 5 old ≡ true = require-good (closedAfter 5 old) (homeCheckWrong p) _ h (f .2) .0 in
     let moved : Burst 16 (coefficients (take 7 old)) (coefficients (take 7 new)) = rw (home-info p xs ys back at a u, home-info p xs zs back at b v) k in
-    rw (found-local xs (ys ++ back) (zs ++ back) 15 23 p (f .1) (omega arith), burst-closed 5 old new closed moved, same)
+    rw (found-local xs (ys ++ back) (zs ++ back) 15 23 p (f .1) (omega arith), burst-unclosed 5 old new closed moved, same)

@@ -15,14 +15,14 @@ use Rattle.format.specs.Opening.{startsWith, plainOpening, checkFollows}
 use Rattle.format.specs.Fault.{sound, faulty, checkWrong}
 use Rattle.format.specs.Address.{addressIn}
 use Rattle.format.specs.Home.{Home}
-use Rattle.format.specs.Count.{Settled, countNumber, keyLength, dataLength, countFits, countClosed, countFieldsRight}
+use Rattle.format.specs.Count.{Settled, countNumber, keyLength, dataLength, countClosed, countFieldsRight}
 use Rattle.format.specs.Block.{dataOffset, emptySize, blockEnd, blocksFit, testBlock, testKey}
 use Rattle.format.specs.Blocks.{Wanted, theKey, theData}
 use Rattle.format.proofs.Base.Judged.{demand-sound}
 use Rattle.format.proofs.Cells.Local.{starts-local, closed-local, block-local}
 use Rattle.format.proofs.Sector.BlocksJudged.{offsetOf, lengthOf, testOf, test-block}
 use Rattle.format.proofs.Sector.BlockEnd.{key-in-offset, key-block-in-offset}
-use Rattle.format.proofs.Bursts.Field.{burst-check}
+use Rattle.format.proofs.Bursts.Field.{burst-unchecked}
 
 -- The key or the data block w in r: before the information stand xs, then information and check ys, or zs after the burst, and then what follows.
 module _ (w : Wanted) (xs ys zs back : List ℕ) (off : length xs ≡ offsetOf w (xs ++ (ys ++ back)) + 6)
@@ -35,8 +35,8 @@ module _ (w : Wanted) (xs ys zs back : List ℕ) (off : length xs ≡ offsetOf w
   z = xs ++ (zs ++ back)
 
   -- The information starts behind the count.
-  far : 29 ≤ length xs
-  far = go w off
+  info-least : 29 ≤ length xs
+  info-least = go w off
     where
       go : (v : Wanted) → length xs ≡ offsetOf v r + 6 → 29 ≤ length xs
       go theKey e = omega arith
@@ -44,24 +44,24 @@ module _ (w : Wanted) (xs ys zs back : List ℕ) (off : length xs ≡ offsetOf w
 
   -- So the bytes of the count are the same,
   byte-kept : (j : ℕ) → j < 29 → getD z j 0 ≡ getD r j 0
-  byte-kept j h = List·getD-append xs (zs ++ back) 0 j (omega (arith, far)) ∙ sym (List·getD-append xs (ys ++ back) 0 j (omega (arith, far)))
+  byte-kept j h = List·getD-append xs (zs ++ back) 0 j (omega (arith, info-least)) ∙ sym (List·getD-append xs (ys ++ back) 0 j (omega (arith, info-least)))
 
   -- S,
   pub number-kept : countNumber z ≡ countNumber r
   number-kept = byte-kept 5 (omega arith)
 
   -- KL,
-  pub key-length-kept : keyLength z ≡ keyLength r
+  key-length-kept : keyLength z ≡ keyLength r
   key-length-kept = byte-kept 6 (omega arith)
 
   -- DL,
-  pub data-length-kept : dataLength z ≡ dataLength r
+  data-length-kept : dataLength z ≡ dataLength r
   data-length-kept = rw (byte-kept 7 (omega arith), byte-kept 8 (omega arith))
 
   -- check and closing byte,
   pub closed-kept : countClosed z ≡ countClosed r
   unfolding countClosed
-  closed-kept = closed-local xs (ys ++ back) (zs ++ back) 9 0 (omega (arith, far))
+  closed-kept = closed-local xs (ys ++ back) (zs ++ back) 9 0 (omega (arith, info-least))
 
   -- flag, C and H.
   pub fields-kept : (h : Home) (i : ℕ) (x : Settled) → countFieldsRight h i x z ≡ countFieldsRight h i x r
@@ -69,13 +69,8 @@ module _ (w : Wanted) (xs ys zs back : List ℕ) (off : length xs ≡ offsetOf w
   fields-kept h i x = rw (byte-kept 0 (omega arith), byte-kept 1 (omega arith), byte-kept 2 (omega arith), byte-kept 3 (omega arith), byte-kept 4 (omega arith))
 
   -- There are as many bytes.
-  pub length-kept : length z ≡ length r
+  length-kept : length z ≡ length r
   length-kept = omega (arith, length-append xs (zs ++ back), length-append zs back, length-append xs (ys ++ back), length-append ys back)
-
-  -- The count fits as before.
-  pub fits-kept : countFits z ≡ countFits r
-  unfolding countFits
-  fits-kept = rw length-kept
 
   -- The data block opens where it did.
   offset-kept : dataOffset z ≡ dataOffset r
@@ -140,7 +135,7 @@ module _ (w : Wanted) (xs ys zs back : List ℕ) (off : length xs ≡ offsetOf w
       let info : (vs : List ℕ) → drop 6 (drop o (xs ++ (vs ++ back))) ≡ vs ++ back = λ vs. drop-drop 6 o (xs ++ (vs ++ back)) ∙ drop-at xs (vs ++ back) (o + 6) off in
       let moved : Burst 16 (coefficients (take (k + 2) (ys ++ back))) (coefficients (take (k + 2) (zs ++ back))) =
       rw (take-at ys back (k + 2) size, take-at zs back (k + 2) (same ∙ size)) b in
-      let wrong : checkFollows k (zs ++ back) ≡ false = burst-check k (ys ++ back) (zs ++ back) (ap (checkFollows k) (sym (info ys)) ∙ check .0) moved in
+      let wrong : checkFollows k (zs ++ back) ≡ false = burst-unchecked k (ys ++ back) (zs ++ back) (ap (checkFollows k) (sym (info ys)) ∙ check .0) moved in
       let still : startsWith plainOpening (drop o z) ≡ true = starts-local xs (ys ++ back) (zs ++ back) plainOpening o (omega arith) ∙ opened .0 in
       test-block w z (ne-eqb (lengthOf w z) 0 (λ q. n (sym (p .1) ∙ q)))
       ∙ ap₂ (λ (i j : ℕ). testBlock j (drop i z)) (p .0) (p .1)

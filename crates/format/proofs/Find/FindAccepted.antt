@@ -18,6 +18,7 @@ use Rattle.format.specs.Span.{none}
 use Rattle.format.specs.Sector.{Sector, openingLength, isFirst, settle, sectorIn}
 use Rattle.format.specs.Accept.{Placed, placedFrom, among, Accepted, spansOf, accept}
 use Rattle.format.specs.Candidate.{Candidate, candidates}
+use Rattle.format.specs.Burst.{placedRest}
 use Rattle.format.specs.Find.{partOf, carrying, only, candidatePart, findCells, find, contentOf}
 use Rattle.format.specs.Blocks.{Wanted, theKey, theData, Part, judgeFit, partIn}
 use Rattle.base.proofs.Tests.{cases, false-true}
@@ -31,10 +32,6 @@ use Rattle.format.proofs.Find.AcceptedCandidates.{candidates-accepted}
 use Rattle.format.proofs.Sector.BlocksJudged.{infoOf, testOf, part-right}
 use Rattle.format.proofs.Find.FindSound.{find-hands-out}
 use Rattle.format.proofs.Find.FindParts.{restPlace}
-
--- What follows the count's opening in the span of a sector.
-abbrev pub placedRest : Placed → List ℕ
-placedRest x = drop (openingLength (x .sector .first)) (x .span)
 
 -- The sector x is what its span says.
 pub record ReadWell (last : Bool) (x : Placed) : Type 0 where
@@ -54,6 +51,7 @@ unfolding sectorIn
 read-info m i u last g s v theKey = sym (ap (λ (z : Sector). z .keyBytes) (v .sector-is))
 read-info m i u last g s v theData = sym (ap (λ (z : Sector). z .dataBytes) (v .sector-is))
 
+-- A sector that is read is what its span says.
 pub read-well : (m : Home) (i : ℕ) (u : Settled) (last : Bool) (p : ℕ) (g : List ℕ) (s : Sector) → ReadAs m i u last g s → ReadWell last (record { place = p; span = g; sector = s })
 unfolding sectorIn
 read-well m i u last p g s v =
@@ -66,6 +64,7 @@ read-well m i u last p g s v =
       info-is = λ w. ap (λ (b : Bool). infoOf w (drop (openingLength b) g)) f ∙ read-info m i u last g s v w;
     }
 
+-- So is each of the sectors that spans read as.
 pub reads-all : (m : Home) (i : ℕ) (u : Settled) (p : ℕ) (gs : List (List ℕ)) (ss : List Sector) → Reads m i u p gs ss → AllRead (placedFrom p gs ss)
 unfolding placedFrom
 reads-all m i u p [] [] e = tt
@@ -102,7 +101,7 @@ abbrev candidateOf : Bool → Placed → Candidate
 candidateOf last x = record { place = x .place; first = x .sector .first; last = last; rest = placedRest x }
 
 -- The candidate y is the only one of them that carries the number of its sector.
-pub record Carried (y : Placed) (xs : List Placed) : Type 0 where
+record Carried (y : Placed) (xs : List Placed) : Type 0 where
   pub last : Bool
   pub alone : carrying (y .sector .number) (candidatesOf xs) ≡ candidateOf last y ∷ []
   pub well : ReadWell last y
@@ -121,7 +120,7 @@ carried-later x y xs v d k c =
     record { last = c .last; alone = rw (v .number-is, ne-eqb (x .sector .number) n other) (c .alone); well = c .well }
 
 -- Each sector's number is carried by its candidate alone.
-pub carrying-one : (y : Placed) (xs : List Placed) → AllRead xs → Distinct (numbersOf xs) → Member y xs → Carried y xs
+carrying-one : (y : Placed) (xs : List Placed) → AllRead xs → Distinct (numbersOf xs) → Member y xs → Carried y xs
 carrying-one y [] r d m = absurd m
 carrying-one y (x ∷ xs) r d m =
     ⊎-elim {C = Carried y (x ∷ xs)}
@@ -130,7 +129,7 @@ carrying-one y (x ∷ xs) r d m =
     m
 
 -- The sectors of an accepted track are what their spans say.
-pub accepted-read : (c : List ℕ) (a : Accepted) → AcceptedBy c a → AllRead (a .sectors)
+accepted-read : (c : List ℕ) (a : Accepted) → AcceptedBy c a → AllRead (a .sectors)
 accepted-read c a b =
     let p : ℕ = firstCountPlace (a .home .place) in
     subst AllRead (sym (b .placed)) (reads-all (a .home) 0 unsettled p (spansOf (a .home) c) (b .sectors) (b .reads))

@@ -80,6 +80,7 @@ candidate-here h p z zs first e o = rw (e, o)
 abbrev pub candidateIn : ℕ → ℕ → Bool → List ℕ → Candidate
 candidateIn i p last g = record { place = p; first = isFirst i; last = last; rest = drop (openingLength (isFirst i)) g }
 
+-- A count at the front of spans, cut as they are and clean, has its own span.
 candidate-agrees : (i p : ℕ) (g : List ℕ) (gs : List (List ℕ)) → openingLength (isFirst i) ≤ length g → Shape i (g ∷ gs) → cleanSpans i (g ∷ gs) ≡ true
     → candidateAt (isFirst i) p (joined (g ∷ gs)) ≡ candidateIn i p (none gs) g
 unfolding candidateAt
@@ -108,10 +109,12 @@ abbrev pub AtPosition : ℕ → ℕ → ℕ → Type 0
 AtPosition zero h p = p ≡ firstCountPlace h
 AtPosition (suc i) h p = firstCountPlace h < p
 
+-- Behind a span that is not empty the next position stands further on.
 pub position-next : (i h p n : ℕ) → AtPosition i h p → 0 < n → AtPosition (suc i) h (p + n)
 position-next zero h p n a l = omega arith
 position-next (suc i) h p n a l = omega arith
 
+-- The count at the front is sector 0's in position 0 and in no other.
 span-first : (i h p : ℕ) (g : List ℕ) (gs : List (List ℕ)) → openingLength (isFirst i) ≤ length g → (i ≡ 0 → startsWith plainOpening g ≡ true) → AtPosition i h p
     → firstOpensAt (good h) p (joined (g ∷ gs)) ≡ isFirst i
 unfolding firstOpensAt

@@ -75,13 +75,14 @@ module _ (i : ℕ) (g z : List ℕ) where
       omega (arith, ap blockEnd (front z), end-taken xs (drop n g) z ends, length-drop o (take n g))
 
 -- It is the span with other bytes behind its opening: those up to the block's end, and z.
-rest-form : (i : ℕ) (g z : List ℕ) → regapped i g z ≡ withRest i g (take (blockEnd (restOf i g)) (restOf i g) ++ z)
+regapped-is : (i : ℕ) (g z : List ℕ) → regapped i g z ≡ withRest i g (take (blockEnd (restOf i g)) (restOf i g) ++ z)
 unfolding regapped blockPlace withRest
-rest-form i g z =
+regapped-is i g z =
     let o : ℕ = openingLength (isFirst i) in
     let b : ℕ = blockEnd (restOf i g) in
     ap (λ (y : List ℕ). y ++ z) (take-add o b g) ∙ append-assoc (take o g) (take b (restOf i g)) z
 
+-- These are unmarked, where z is.
 rest-unmarked : (i : ℕ) (g z : List ℕ) → cleanSpan i g ≡ true → unmarked z ≡ true → unmarked (take (blockEnd (restOf i g)) (restOf i g) ++ z) ≡ true
 rest-unmarked i g z c u =
     let b : ℕ = blockEnd (restOf i g) in
@@ -89,11 +90,11 @@ rest-unmarked i g z c u =
 
 -- A span without stray marks stays without, where z has no mark.
 pub clean-regapped : (i : ℕ) (g z : List ℕ) → Shape i (g ∷ []) → cleanSpan i g ≡ true → unmarked z ≡ true → cleanSpan i (regapped i g z) ≡ true
-clean-regapped i g z v c u = ap (cleanSpan i) (rest-form i g z) ∙ clean-with-rest i g (take (blockEnd (restOf i g)) (restOf i g) ++ z) v c (rest-unmarked i g z c u)
+clean-regapped i g z v c u = ap (cleanSpan i) (regapped-is i g z) ∙ clean-with-rest i g (take (blockEnd (restOf i g)) (restOf i g) ++ z) v c (rest-unmarked i g z c u)
 
 -- It keeps the shape of a span in its position.
 pub shape-regapped : (i : ℕ) (g z : List ℕ) → Shape i (g ∷ []) → cleanSpan i g ≡ true → unmarked z ≡ true → Shape i (regapped i g z ∷ [])
-shape-regapped i g z v c u = rw (rest-form i g z) (shape-with-rest i g (take (blockEnd (restOf i g)) (restOf i g) ++ z) v c (rest-unmarked i g z c u))
+shape-regapped i g z v c u = rw (regapped-is i g z) (shape-with-rest i g (take (blockEnd (restOf i g)) (restOf i g) ++ z) v c (rest-unmarked i g z c u))
 
 -- A sector that is read stands in the position of its span.
 pub read-first : (h : Home) (i : ℕ) (x : Settled) (p : ℕ) (last : Bool) (g : List ℕ) (s : Sector) → readSpan h i x p last g ≡ good s → s .first ≡ isFirst i

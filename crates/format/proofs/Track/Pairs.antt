@@ -1,6 +1,6 @@
 -- Cells as a track and its marks, and back.
 use mathlib.Core.Path.{_≡_, refl, sym, ap, ap₂, _∙_}
-use Prim.Native.Nat.{ℕ, zero, suc, _/_, _%_, _<_, min}
+use Prim.Native.Nat.{ℕ, zero, suc, _+_, _*_, _/_, _%_, _<_, min}
 use native.Mathlib.Omega.{arith}
 use mathlib.Core.Bool.{Bool, true, _&&_, _||_}
 use mathlib.Core.List.{List, [], _∷_, map}
@@ -70,6 +70,14 @@ drop-cells zero t m = refl
 drop-cells (suc n) [] m = refl
 drop-cells (suc n) (b ∷ t) [] = sym (cells-none (drop n t))
 drop-cells (suc n) (b ∷ t) (k ∷ m) = drop-cells n t m
+
+-- The first n cells are those of what both lists start with.
+pub take-cells : (n : ℕ) (t m : List ℕ) → take n (cells t m) ≡ cells (take n t) (take n m)
+unfolding cells
+take-cells zero t m = refl
+take-cells (suc n) [] m = refl
+take-cells (suc n) (b ∷ t) [] = refl
+take-cells (suc n) (b ∷ t) (k ∷ m) = ap (λ (c : List ℕ). (b + 256 * k) ∷ c) (take-cells n t m)
 
 -- The bytes are as many as the cells, and so are the marks.
 pub length-bytes : (c : List ℕ) → length (bytesOf c) ≡ length c

@@ -1,4 +1,4 @@
-//! Information with its check on a track, patterns of bits to reverse in it, and what Accept and Find give of the altered track.
+//! Information with its check on a track, patterns of bits to alter in it, and what Accept and Find give of the altered track.
 
 use super::sectors::sectors_of;
 use super::{expected, lent, Track};
@@ -87,7 +87,7 @@ pub fn width(pattern: u32) -> usize {
     (32 - pattern.leading_zeros()) as usize
 }
 
-/// The bits to reverse in a field: the highest 1 of the pattern stands for the bit at the start, the lowest for the last.
+/// The bits to alter in a field: the highest 1 of the pattern stands for the bit at the start, the lowest for the last.
 #[derive(Clone, Copy, Debug)]
 pub struct Change {
     pub field: Field,
@@ -96,14 +96,14 @@ pub struct Change {
 }
 
 impl Change {
-    /// The bits of the field to reverse.
+    /// The bits of the field that are altered.
     pub fn bits(&self) -> impl Iterator<Item = usize> {
         let Change { start, pattern, .. } = *self;
         let last = start + width(pattern) - 1;
         (start..=last).filter(move |bit| pattern >> (last - bit) & 1 == 1)
     }
 
-    /// Reverses these bits; a second time restores the track.
+    /// Alters these bits; a second time restores the track.
     pub fn apply(&self, track: &mut [u8]) {
         for bit in self.bits() {
             track[self.field.place + bit / 8] ^= 0x80 >> (bit % 8);

@@ -1,6 +1,6 @@
--- Two lists of bytes that are the same but for n successive bytes, as parts, and the cells of both with the same marks.
+-- Two tracks that are the same but for n successive bytes: the cells of both in parts, and a part of them with other bytes in it.
 use mathlib.Core.Path.{_≡_, refl, sym, ap, ap₂, _∙_}
-use Prim.Native.Nat.{ℕ, zero, suc, _+_, _*_, _≤_, _<_}
+use Prim.Native.Nat.{ℕ, _+_, _*_, _≤_, _<_}
 use native.Mathlib.Omega.{arith}
 use mathlib.Core.Bool.{true, _&&_}
 use mathlib.Core.List.{List, [], _∷_, _++_, append-assoc}
@@ -11,27 +11,15 @@ use borrow.Author.Tests.{ltb-true}
 use Rattle.base.proofs.Tests.{and-both}
 use Rattle.base.proofs.Lists.{part-length}
 use Rattle.format.specs.Lent.{marksLegal, lentForWriting, lentForReading, cells, unmarked}
+use Rattle.format.specs.Burst.{SameBut}
 use Rattle.format.proofs.Cells.Opening.{unmarked-append, unmarked-take, unmarked-drop}
-use Rattle.format.proofs.Track.Pairs.{drop-cells, length-cells, lent-marks}
-
--- The lists t and u are the same before place q and from place q + n on.
-pub record SameBut (q n : ℕ) (t u : List ℕ) : Type 0 where
-  pub before : take q u ≡ take q t
-  pub behind : drop (q + n) u ≡ drop (q + n) t
+use Rattle.format.proofs.Track.Pairs.{drop-cells, take-cells, length-cells, lent-marks}
 
 -- A list in three parts: before place q, the n elements from there on, and the rest.
 three-parts : (q n : ℕ) (c : List ℕ) → c ≡ take q c ++ (take n (drop q c) ++ drop (q + n) c)
 three-parts q n c =
     sym (take-append-drop q c)
     ∙ ap (λ (r : List ℕ). take q c ++ r) (sym (take-append-drop n (drop q c)) ∙ ap (λ (r : List ℕ). take n (drop q c) ++ r) (drop-drop n q c))
-
--- The first n cells are those of the first n bytes and marks.
-take-cells : (n : ℕ) (t m : List ℕ) → take n (cells t m) ≡ cells (take n t) (take n m)
-unfolding cells
-take-cells zero t m = refl
-take-cells (suc n) [] m = refl
-take-cells (suc n) (b ∷ t) [] = refl
-take-cells (suc n) (b ∷ t) (k ∷ m) = ap (λ (c : List ℕ). (b + 256 * k) ∷ c) (take-cells n t m)
 
 -- Where the cells of bytes are unmarked, they and the cells of as many other bytes with the same marks are the bytes themselves.
 plain-cells : (bs cs m : List ℕ) → length m ≡ length bs → length cs ≡ length bs → unmarked (cells bs m) ≡ true → (cells bs m ≡ bs) × (cells cs m ≡ cs)
@@ -117,38 +105,42 @@ unmarked-put off n ns r u v =
 
 -- The same list in two ways: before stand xs, then r and then ys; or before stand fs, then os and then bs, where os are the n elements from place off of r on.
 module _ (xs r ys fs os bs : List ℕ) (off n : ℕ) (e : xs ++ (r ++ ys) ≡ fs ++ (os ++ bs)) (f : length fs ≡ length xs + off) (o : length os ≡ n) (w : off + n ≤ length r) where
-  front-within : fs ≡ xs ++ take off r
-  front-within =
+  -- Before os stands what stands before r, and the front of r.
+  front-is : fs ≡ xs ++ take off r
+  front-is =
       sym (take-at fs (os ++ bs) (length xs + off) f)
       ∙ ap (take (length xs + off)) (sym e)
       ∙ take-append-add xs (r ++ ys) off
       ∙ ap (λ (l : List ℕ). xs ++ l) (take-append-le off r ys (omega arith))
 
-  behind-within : os ++ bs ≡ drop off r ++ ys
-  behind-within =
+  -- From os on stands what follows in r, and then ys.
+  onward-is : os ++ bs ≡ drop off r ++ ys
+  onward-is =
       sym (drop-at fs (os ++ bs) (length xs + off) f)
       ∙ ap (drop (length xs + off)) (sym e)
       ∙ drop-append-add xs (r ++ ys) off
       ∙ drop-append-le off r ys (omega arith)
 
-  back-within : bs ≡ drop (off + n) r ++ ys
-  back-within =
+  -- Behind os stands the rest of r, and then ys.
+  back-is : bs ≡ drop (off + n) r ++ ys
+  back-is =
       sym (drop-at os bs n o)
-      ∙ ap (drop n) behind-within
+      ∙ ap (drop n) onward-is
       ∙ drop-append-le n (drop off r) ys (omega (arith, length-drop off r))
       ∙ ap (λ (l : List ℕ). l ++ ys) (drop-drop n off r)
 
-  middle-within : os ≡ take n (drop off r)
-  middle-within = sym (take-at os bs n o) ∙ ap (take n) behind-within ∙ take-append-le n (drop off r) ys (omega (arith, length-drop off r))
+  -- And os is what it was said to be.
+  middle-is : os ≡ take n (drop off r)
+  middle-is = sym (take-at os bs n o) ∙ ap (take n) onward-is ∙ take-append-le n (drop off r) ys (omega (arith, length-drop off r))
 
   -- So r is made of the elements before os, of os and of those behind.
-  pub rest-within : r ≡ putIn off n os r
-  rest-within = three-parts off n r ∙ ap (λ (l : List ℕ). take off r ++ (l ++ drop (off + n) r)) (sym middle-within)
+  pub rest-put-is : r ≡ putIn off n os r
+  rest-put-is = three-parts off n r ∙ ap (λ (l : List ℕ). take off r ++ (l ++ drop (off + n) r)) (sym middle-is)
 
   -- With ns in place of os the whole has them in r.
-  pub put-within : (ns : List ℕ) → fs ++ (ns ++ bs) ≡ xs ++ (putIn off n ns r ++ ys)
-  put-within ns =
-      ap₂ (λ (a b : List ℕ). a ++ (ns ++ b)) front-within back-within
+  pub whole-put-is : (ns : List ℕ) → fs ++ (ns ++ bs) ≡ xs ++ (putIn off n ns r ++ ys)
+  whole-put-is ns =
+      ap₂ (λ (a b : List ℕ). a ++ (ns ++ b)) front-is back-is
       ∙ append-assoc xs (take off r) (ns ++ (drop (off + n) r ++ ys))
       ∙ ap (λ (l : List ℕ). xs ++ l)
       (ap (λ (l : List ℕ). take off r ++ l) (sym (append-assoc ns (drop (off + n) r) ys)) ∙ sym (append-assoc (take off r) (ns ++ drop (off + n) r) ys))

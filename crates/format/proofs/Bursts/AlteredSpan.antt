@@ -16,6 +16,7 @@ use Rattle.format.specs.Count.{Settled, unsettled}
 use Rattle.format.specs.Span.{spans, joined, none, cleanSpan, cleanSpans}
 use Rattle.format.specs.Sector.{Sector, openingLength, isFirst, settle, readSpan}
 use Rattle.format.specs.Accept.{Placed, placedFrom, judgeMarks, spansOf, firstCountEnd}
+use Rattle.format.specs.Burst.{placedRest, placedStart}
 use Rattle.format.proofs.Spans.Shape.{Shape, FirstReaches}
 use Rattle.format.proofs.Spans.Cutting.{shape-cons, shape-head, shape-tail}
 use Rattle.format.proofs.Spans.Marks.{clean-marks}
@@ -25,60 +26,51 @@ use Rattle.format.proofs.Sector.OtherRest.{withRest, length-with-rest, 
 use Rattle.format.proofs.Sector.Regapped.{read-first}
 use Rattle.format.proofs.Track.HomeLocal.{home-local}
 use Rattle.format.proofs.Track.AcceptedSpans.{Track, spans-found}
-use Rattle.format.proofs.Find.FindAccepted.{placedRest}
 use Rattle.format.proofs.Faults.AcceptFault.{ComesTo}
 
--- The sector s with the span g at place p.
-abbrev placedAt : ℕ → List ℕ → Sector → Placed
-placedAt p g s = record { place = p; span = g; sector = s }
-
--- The place from which the bytes behind the count's opening of a sector follow.
-abbrev pub placedStart : Placed → ℕ
-placedStart y = y .place + openingLength (y .sector .first)
-
--- Other bytes z, as many and unmarked, behind the count's opening of the sector y.
+-- Other bytes z behind the count's opening of the sector y.
 module _ (y : Placed) (z : List ℕ) where
   -- The spans gs of the sectors ss, from position i and place p on, with z in that of y, which is one of the sectors.
-  unfoldable pub otherRest : (i p : ℕ) (gs : List (List ℕ)) (ss : List Sector) → Member y (placedFrom p gs ss) → List (List ℕ)
+  unfoldable pub alteredSpans : (i p : ℕ) (gs : List (List ℕ)) (ss : List Sector) → Member y (placedFrom p gs ss) → List (List ℕ)
   unfolding placedFrom
-  otherRest i p [] ss m = absurd m
-  otherRest i p (g ∷ gs) [] m = absurd m
-  otherRest i p (g ∷ gs) (s ∷ ss) (inl e) = withRest i g z ∷ gs
-  otherRest i p (g ∷ gs) (s ∷ ss) (inr m) = g ∷ otherRest (suc i) (p + length g) gs ss m
+  alteredSpans i p [] ss m = absurd m
+  alteredSpans i p (g ∷ gs) [] m = absurd m
+  alteredSpans i p (g ∷ gs) (s ∷ ss) (inl e) = withRest i g z ∷ gs
+  alteredSpans i p (g ∷ gs) (s ∷ ss) (inr m) = g ∷ alteredSpans (suc i) (p + length g) gs ss m
 
-  -- There are as many as before.
-  pub none-other : (i p : ℕ) (gs : List (List ℕ)) (ss : List Sector) (m : Member y (placedFrom p gs ss)) → none (otherRest i p gs ss m) ≡ none gs
-  unfolding placedFrom otherRest
-  none-other i p [] ss m = absurd m
-  none-other i p (g ∷ gs) [] m = absurd m
-  none-other i p (g ∷ gs) (s ∷ ss) (inl e) = refl
-  none-other i p (g ∷ gs) (s ∷ ss) (inr m) = refl
+  -- There is none exactly where there was none.
+  pub none-altered : (i p : ℕ) (gs : List (List ℕ)) (ss : List Sector) (m : Member y (placedFrom p gs ss)) → none (alteredSpans i p gs ss m) ≡ none gs
+  unfolding placedFrom alteredSpans
+  none-altered i p [] ss m = absurd m
+  none-altered i p (g ∷ gs) [] m = absurd m
+  none-altered i p (g ∷ gs) (s ∷ ss) (inl e) = refl
+  none-altered i p (g ∷ gs) (s ∷ ss) (inr m) = refl
 
   -- They keep their shape,
-  pub shape-other : (i p : ℕ) (gs : List (List ℕ)) (ss : List Sector) (m : Member y (placedFrom p gs ss)) → unmarked z ≡ true → Shape i gs → cleanSpans i gs ≡ true
-      → Shape i (otherRest i p gs ss m)
-  unfolding placedFrom otherRest cleanSpans
-  shape-other i p [] ss m u v c = absurd m
-  shape-other i p (g ∷ gs) [] m u v c = absurd m
-  shape-other i p (g ∷ gs) (s ∷ ss) (inl e) u v c =
+  pub shape-altered : (i p : ℕ) (gs : List (List ℕ)) (ss : List Sector) (m : Member y (placedFrom p gs ss)) → unmarked z ≡ true → Shape i gs → cleanSpans i gs ≡ true
+      → Shape i (alteredSpans i p gs ss m)
+  unfolding placedFrom alteredSpans cleanSpans
+  shape-altered i p [] ss m u v c = absurd m
+  shape-altered i p (g ∷ gs) [] m u v c = absurd m
+  shape-altered i p (g ∷ gs) (s ∷ ss) (inl e) u v c =
       let k = and-both (cleanSpan i g) (cleanSpans (suc i) gs) c in
       shape-cons i (withRest i g z) gs (shape-with-rest i g z (shape-head i g gs v) (k .0) u) (shape-tail i g gs v)
-  shape-other i p (g ∷ gs) (s ∷ ss) (inr m) u v c =
+  shape-altered i p (g ∷ gs) (s ∷ ss) (inr m) u v c =
       let k = and-both (cleanSpan i g) (cleanSpans (suc i) gs) c in
-      shape-cons i g (otherRest (suc i) (p + length g) gs ss m) (shape-head i g gs v) (shape-other (suc i) (p + length g) gs ss m u (shape-tail i g gs v) (k .1))
+      shape-cons i g (alteredSpans (suc i) (p + length g) gs ss m) (shape-head i g gs v) (shape-altered (suc i) (p + length g) gs ss m u (shape-tail i g gs v) (k .1))
 
   -- have no stray mark,
-  pub clean-other : (i p : ℕ) (gs : List (List ℕ)) (ss : List Sector) (m : Member y (placedFrom p gs ss)) → unmarked z ≡ true → Shape i gs → cleanSpans i gs ≡ true
-      → cleanSpans i (otherRest i p gs ss m) ≡ true
-  unfolding placedFrom otherRest cleanSpans
-  clean-other i p [] ss m u v c = absurd m
-  clean-other i p (g ∷ gs) [] m u v c = absurd m
-  clean-other i p (g ∷ gs) (s ∷ ss) (inl e) u v c =
+  pub clean-altered : (i p : ℕ) (gs : List (List ℕ)) (ss : List Sector) (m : Member y (placedFrom p gs ss)) → unmarked z ≡ true → Shape i gs → cleanSpans i gs ≡ true
+      → cleanSpans i (alteredSpans i p gs ss m) ≡ true
+  unfolding placedFrom alteredSpans cleanSpans
+  clean-altered i p [] ss m u v c = absurd m
+  clean-altered i p (g ∷ gs) [] m u v c = absurd m
+  clean-altered i p (g ∷ gs) (s ∷ ss) (inl e) u v c =
       let k = and-both (cleanSpan i g) (cleanSpans (suc i) gs) c in
       and-make (clean-with-rest i g z (shape-head i g gs v) (k .0) u) (k .1)
-  clean-other i p (g ∷ gs) (s ∷ ss) (inr m) u v c =
+  clean-altered i p (g ∷ gs) (s ∷ ss) (inr m) u v c =
       let k = and-both (cleanSpan i g) (cleanSpans (suc i) gs) c in
-      and-make (k .0) (clean-other (suc i) (p + length g) gs ss m u (shape-tail i g gs v) (k .1))
+      and-make (k .0) (clean-altered (suc i) (p + length g) gs ss m u (shape-tail i g gs v) (k .1))
 
   -- The span of y, where it stands: Accept comes to it with z in place of what was read as y.
   pub record StandsIn (h : Home) (i : ℕ) (x : Settled) (p : ℕ) (gs ks : List (List ℕ)) : Type 0 where
@@ -97,7 +89,7 @@ module _ (y : Placed) (z : List ℕ) where
     pub after-is : joined ks ≡ front ++ (z ++ back)
 
   -- As the first of the spans.
-  stands-first : (h : Home) (i : ℕ) (x : Settled) (p : ℕ) (g : List ℕ) (gs : List (List ℕ)) (s : Sector) → readSpan h i x p (none gs) g ≡ good s → cleanSpan i g ≡ true → y ≡ placedAt p g s
+  stands-first : (h : Home) (i : ℕ) (x : Settled) (p : ℕ) (g : List ℕ) (gs : List (List ℕ)) (s : Sector) → readSpan h i x p (none gs) g ≡ good s → cleanSpan i g ≡ true → y ≡ record { place = p; span = g; sector = s }
       → StandsIn h i x p (g ∷ gs) (withRest i g z ∷ gs)
   unfolding withRest
   stands-first h i x p g gs s r c e =
@@ -142,51 +134,50 @@ module _ (y : Placed) (z : List ℕ) where
 
   -- It stands somewhere among them.
   pub stands-in : (h : Home) (i : ℕ) (x : Settled) (p : ℕ) (gs : List (List ℕ)) (ss : List Sector) (m : Member y (placedFrom p gs ss)) → Reads h i x p gs ss → cleanSpans i gs ≡ true
-      → StandsIn h i x p gs (otherRest i p gs ss m)
-  unfolding placedFrom otherRest cleanSpans
+      → StandsIn h i x p gs (alteredSpans i p gs ss m)
+  unfolding placedFrom alteredSpans cleanSpans
   stands-in h i x p [] ss m r c = absurd m
   stands-in h i x p (g ∷ gs) [] m r c = absurd m
   stands-in h i x p (g ∷ gs) (s ∷ ss) (inl e) r c = stands-first h i x p g gs s (r .0) (and-both (cleanSpan i g) (cleanSpans (suc i) gs) c .0) e
   stands-in h i x p (g ∷ gs) (s ∷ ss) (inr m) r c =
-      stands-later h i x p g gs (otherRest (suc i) (p + length g) gs ss m) s (r .0) (none-other (suc i) (p + length g) gs ss m)
+      stands-later h i x p g gs (alteredSpans (suc i) (p + length g) gs ss m) s (r .0) (none-altered (suc i) (p + length g) gs ss m)
       (stands-in h (suc i) (settle x s) (p + length g) gs ss m (r .1) (and-both (cleanSpan i g) (cleanSpans (suc i) gs) c .1))
 
   -- In the first of them there is room for n cells, if there was.
-  reaches-other : (h : Home) (i : ℕ) (x : Settled) (p n : ℕ) (gs : List (List ℕ)) (ss : List Sector) (m : Member y (placedFrom p gs ss)) → Reads h i x p gs ss → length z ≡ length (placedRest y)
-      → openingLength (isFirst i) ≤ n → FirstReaches n gs → FirstReaches n (otherRest i p gs ss m)
-  unfolding placedFrom otherRest
-  reaches-other h i x p n [] ss m r l o f = absurd m
-  reaches-other h i x p n (g ∷ gs) [] m r l o f = absurd m
-  reaches-other h i x p n (g ∷ []) (s ∷ ss) (inl e) r l o f = tt
-  reaches-other h i x p n (g ∷ []) (s ∷ ss) (inr m) r l o f = absurd m
-  reaches-other h i x p n (g ∷ k ∷ gs) (s ∷ ss) (inl e) r l o f =
+  reaches-altered : (h : Home) (i : ℕ) (x : Settled) (p n : ℕ) (gs : List (List ℕ)) (ss : List Sector) (m : Member y (placedFrom p gs ss)) → Reads h i x p gs ss → length z ≡ length (placedRest y)
+      → openingLength (isFirst i) ≤ n → FirstReaches n gs → FirstReaches n (alteredSpans i p gs ss m)
+  unfolding placedFrom alteredSpans
+  reaches-altered h i x p n [] ss m r l o f = absurd m
+  reaches-altered h i x p n (g ∷ gs) [] m r l o f = absurd m
+  reaches-altered h i x p n (g ∷ []) (s ∷ ss) (inl e) r l o f = tt
+  reaches-altered h i x p n (g ∷ []) (s ∷ ss) (inr m) r l o f = absurd m
+  reaches-altered h i x p n (g ∷ k ∷ gs) (s ∷ ss) (inl e) r l o f =
       let size : length z ≡ length (restOf i g) = l ∙ ap (λ (q : Placed). length (placedRest q)) e ∙ ap (λ (b : Bool). length (drop (openingLength b) g)) (read-first h i x p false g s (r .0)) in
       omega (arith, length-with-rest i g z (omega arith), length-drop (openingLength (isFirst i)) g)
-  reaches-other h i x p n (g ∷ k ∷ gs) (s ∷ ss) (inr m) r l o f = cons (otherRest (suc i) (p + length g) (k ∷ gs) ss m)
+  reaches-altered h i x p n (g ∷ k ∷ gs) (s ∷ ss) (inr m) r l o f = cons (alteredSpans (suc i) (p + length g) (k ∷ gs) ss m)
     where
       cons : (ks : List (List ℕ)) → FirstReaches n (g ∷ ks)
       cons [] = tt
       cons (j ∷ ks) = f
 
-  -- A track of such spans behind the home h and the sectors ss that they were read as.
-  module _ (head : List ℕ) (h : Home) (gs : List (List ℕ)) (ss : List Sector) (t : Track head h gs ss) (m : Member y (placedFrom (firstCountPlace (h .place)) gs ss))
-      (u : unmarked z ≡ true) (l : length z ≡ length (placedRest y)) where
+  -- A track of such spans behind the home h, where ss are the sectors that they were read as.
+  module _ (head : List ℕ) (h : Home) (gs : List (List ℕ)) (ss : List Sector) (t : Track head h gs ss) (m : Member y (placedFrom (firstCountPlace (h .place)) gs ss)) where
     -- Its spans.
-    abbrev pub spansOther : List (List ℕ)
-    spansOther = otherRest 0 (firstCountPlace (h .place)) gs ss m
+    abbrev spansAltered : List (List ℕ)
+    spansAltered = alteredSpans 0 (firstCountPlace (h .place)) gs ss m
 
-    -- Its home is the same,
-    pub home-other : judgeHome (head ++ joined spansOther) ≡ good h
-    home-other = home-local head (joined gs) (joined spansOther) h (t .home-judged) (t .head-length)
+    -- Its home is the same.
+    pub home-altered : judgeHome (head ++ joined spansAltered) ≡ good h
+    home-altered = home-local head (joined gs) (joined spansAltered) h (t .home-judged) (t .head-length)
 
-    -- no mark is stray,
-    pub marks-other : judgeMarks (firstCountEnd (h .place)) 0 0 (head ++ joined spansOther) ≡ good tt
-    marks-other =
-        clean-marks (firstCountEnd (h .place)) head spansOther (omega (arith, t .head-length)) (t .head-unmarked) (shape-other 0 (firstCountPlace (h .place)) gs ss m u (t .shape) (t .clean))
-        (clean-other 0 (firstCountPlace (h .place)) gs ss m u (t .shape) (t .clean)) (reaches-other h 0 unsettled (firstCountPlace (h .place)) 18 gs ss m (t .reads) l (omega arith) (t .reaches))
+    -- Where z is unmarked its spans are found,
+    pub spans-altered : unmarked z ≡ true → spansOf h (head ++ joined spansAltered) ≡ spansAltered
+    spans-altered u =
+        ap spans (drop-at head (joined spansAltered) (firstCountPlace (h .place)) (t .head-length))
+        ∙ spans-found spansAltered (none-altered 0 (firstCountPlace (h .place)) gs ss m ∙ t .some-span) (shape-altered 0 (firstCountPlace (h .place)) gs ss m u (t .shape) (t .clean))
 
-    -- and its spans are found.
-    pub spans-other : spansOf h (head ++ joined spansOther) ≡ spansOther
-    spans-other =
-        ap spans (drop-at head (joined spansOther) (firstCountPlace (h .place)) (t .head-length))
-        ∙ spans-found spansOther (none-other 0 (firstCountPlace (h .place)) gs ss m ∙ t .some-span) (shape-other 0 (firstCountPlace (h .place)) gs ss m u (t .shape) (t .clean))
+    -- and where z is as long as what it replaces no mark is stray.
+    pub marks-altered : unmarked z ≡ true → length z ≡ length (placedRest y) → judgeMarks (firstCountEnd (h .place)) 0 0 (head ++ joined spansAltered) ≡ good tt
+    marks-altered u l =
+        clean-marks (firstCountEnd (h .place)) head spansAltered (omega (arith, t .head-length)) (t .head-unmarked) (shape-altered 0 (firstCountPlace (h .place)) gs ss m u (t .shape) (t .clean))
+        (clean-altered 0 (firstCountPlace (h .place)) gs ss m u (t .shape) (t .clean)) (reaches-altered h 0 unsettled (firstCountPlace (h .place)) 18 gs ss m (t .reads) l (omega arith) (t .reaches))

@@ -1,4 +1,4 @@
--- Information and check divided together: the remainder is all ones exactly where they agree.
+-- Information with its check behind it, divided as a whole: the remainder is all ones exactly where the two agree.
 use mathlib.Core.Path.{_≡_, sym, ap, _∙_}
 use Prim.Native.Nat.{ℕ, _+_, _*_, _/_, _%_, _<_}
 use native.Mathlib.Omega.{arith}
@@ -8,7 +8,7 @@ use lib.Dec.{lit<}
 use lib.Bits.{bitXor, xor-block, xor-lt}
 use borrow.Author.Tests.{eq-eqb}
 use Rattle.crc.specs.Check.{digits, coefficients, remainder, checkOf, agrees}
-use Rattle.crc.specs.Burst.{fieldBits}
+use Rattle.crc.specs.Burst.{checkedBits}
 use Rattle.crc.proofs.Xor.{xor-twice, xor-cancel}
 use Rattle.crc.proofs.Coefficients.{coefficients-digits, coefficients-append}
 use Rattle.crc.proofs.Turn.{bring-byte}
@@ -16,7 +16,7 @@ use Rattle.crc.proofs.Remainder.{remainder-lt, remainder-append}
 use Rattle.crc.proofs.Check.{check-complement, check-lt}
 use Rattle.crc.proofs.Agreement.{agrees-parts, agrees-number}
 
--- Two bytes brought down behind a remainder are added to it.
+-- Two bytes brought down behind a remainder are added to it over GF(2).
 bring-two : (r h l : ℕ) → r < 65536 → h < 256 → l < 256 → remainder r (coefficients (h ∷ l ∷ [])) ≡ bitXor r (h * 256 + l)
 unfolding coefficients remainder
 bring-two r h l hr hh hl =
@@ -31,25 +31,25 @@ bring-two r h l hr hh hl =
     ∙ sym (xor-block 8 a h b l hb hl)
     ∙ ap (λ (z : ℕ). bitXor z (h * 256 + l)) (sym halves)
 
--- The remainder of information and check together is that of the information with the check added.
-remainder-field : (bs : List ℕ) (h l : ℕ) → h < 256 → l < 256 → remainder 0 (fieldBits bs h l) ≡ bitXor (remainder 0 (coefficients bs)) (h * 256 + l)
-remainder-field bs h l hh hl =
+-- The remainder of the whole is that of the information with the check added.
+remainder-checked : (bs : List ℕ) (h l : ℕ) → h < 256 → l < 256 → remainder 0 (checkedBits bs h l) ≡ bitXor (remainder 0 (coefficients bs)) (h * 256 + l)
+remainder-checked bs h l hh hl =
     ap (remainder 0) (coefficients-append bs (h ∷ l ∷ []))
     ∙ remainder-append 0 (coefficients bs) (coefficients (h ∷ l ∷ []))
     ∙ bring-two (remainder 0 (coefficients bs)) h l (remainder-lt 0 (coefficients bs) (lit< tt) (coefficients-digits bs)) hh hl
 
 -- Where they agree it is all ones,
-pub agrees-ones : (bs : List ℕ) (h l : ℕ) → agrees bs h l ≡ true → remainder 0 (fieldBits bs h l) ≡ 65535
+pub agrees-ones : (bs : List ℕ) (h l : ℕ) → agrees bs h l ≡ true → remainder 0 (checkedBits bs h l) ≡ 65535
 agrees-ones bs h l e =
     let p = agrees-parts bs h l e in
     let n : h * 256 + l ≡ checkOf bs = omega (arith, p .0, p .1) in
-    remainder-field bs h l (omega (arith, check-lt bs)) (omega arith)
+    remainder-checked bs h l (omega (arith, check-lt bs)) (omega arith)
     ∙ ap (bitXor (remainder 0 (coefficients bs))) (n ∙ check-complement bs)
     ∙ xor-twice (remainder 0 (coefficients bs)) 65535
 
 -- and where it is all ones they agree.
-pub ones-agree : (bs : List ℕ) (h l : ℕ) → h < 256 → l < 256 → remainder 0 (fieldBits bs h l) ≡ 65535 → agrees bs h l ≡ true
+pub ones-agree : (bs : List ℕ) (h l : ℕ) → h < 256 → l < 256 → remainder 0 (checkedBits bs h l) ≡ 65535 → agrees bs h l ≡ true
 ones-agree bs h l hh hl e =
     let r : ℕ = remainder 0 (coefficients bs) in
-    let n : h * 256 + l ≡ bitXor r 65535 = xor-cancel r (h * 256 + l) (bitXor r 65535) (sym (remainder-field bs h l hh hl) ∙ e ∙ sym (xor-twice r 65535)) in
+    let n : h * 256 + l ≡ bitXor r 65535 = xor-cancel r (h * 256 + l) (bitXor r 65535) (sym (remainder-checked bs h l hh hl) ∙ e ∙ sym (xor-twice r 65535)) in
     agrees-number bs h l hh hl ∙ eq-eqb (checkOf bs) (h * 256 + l) (check-complement bs ∙ sym n)
