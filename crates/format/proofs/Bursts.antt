@@ -1,4 +1,4 @@
--- Short bursts: a field in which bits are altered within sixteen successive ones is not closed, and Accept and Find refuse the track for that field.
+-- Short bursts: a field in which bits are altered among sixteen successive ones is not closed; Accept refuses the track for that field, and Find does if asked for that sector or part.
 pub mod Field
 pub mod Rest
 pub mod AlteredBytes

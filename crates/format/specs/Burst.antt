@@ -42,14 +42,14 @@ HasField a (ofCount x) = Member x (a .sectors)
 HasField a (ofKey x) = Member x (a .sectors) × (keyLength (placedRest x) ≡ 0 → ⊥)
 HasField a (ofData x) = Member x (a .sectors) × (dataLength (placedRest x) ≡ 0 → ⊥)
 
--- The place at which a field opens.
+-- The place of the opening before a field.
 abbrev pub openingPlace : Accepted → Field → ℕ
 openingPlace a ofHome = a .home .place
 openingPlace a (ofCount x) = x .place
 openingPlace a (ofKey x) = placedStart x + keyOffset
 openingPlace a (ofData x) = placedStart x + dataOffset (placedRest x)
 
--- The place of its first information byte, behind the opening.
+-- The place of its first information byte.
 abbrev pub infoPlace : Accepted → Field → ℕ
 infoPlace a ofHome = openingPlace a ofHome + plainLength
 infoPlace a (ofCount x) = placedStart x
@@ -63,7 +63,7 @@ infoLength (ofCount x) = countInfoLength
 infoLength (ofKey x) = keyLength (placedRest x)
 infoLength (ofData x) = dataLength (placedRest x)
 
--- The answer that refuses it for its check: 3, 7, 10 or 11 at its opening, 10 and 11 with the second number of the check.
+-- The answer that refuses it for its check: 3, 7, 10 or 11 at the opening before it, 10 and 11 with the second number of the check.
 abbrev pub checkAnswer : Accepted → Field → Answer
 checkAnswer a ofHome = homeCheckWrong (openingPlace a ofHome)
 checkAnswer a (ofCount x) = countCheckWrong (openingPlace a (ofCount x))

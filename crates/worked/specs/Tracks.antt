@@ -108,7 +108,7 @@ answerSpoiled ps = let a : Answer = answerOf (acceptCells (spoiledAt ps threeByH
 unfoldable pub checkedHome : ℕ → ℕ → List ℕ
 checkedHome c h = let info : List ℕ = 0x00 ∷ addressBytes (address c h) in info ++ checkBytes info
 
--- The bytes or cells c with their bits at the places is altered.
+-- The bytes or cells c with the bit at each place of a list altered.
 unfoldable pub alteredAt : List ℕ → List ℕ → List ℕ
 alteredAt [] c = c
 alteredAt (i ∷ is) c = alteredAt is (alterBit i c)

@@ -1,4 +1,4 @@
-//! Bits altered in the information and check bytes of home, counts, keys and data blocks: every change within sixteen successive bits is refused by the check, and two bits sixteen apart pass it.
+//! Bits altered in the information and check bytes of home, counts, keys and data blocks: each change that is tried within sixteen successive bits is refused by the check, and two bits sixteen apart pass it.
 //!
 //! Every altered track is judged by the proved library and by the reference.
 
@@ -166,7 +166,7 @@ fn bursts_on_a_long_block() {
     finish("bursts on a long block", tried, [(Kind::Data, 432_146)]);
 }
 
-/// Any pattern of up to sixteen bits at any start in a field.
+/// A random pattern of up to sixteen bits at a random start in a field.
 fn any_change(rng: &mut Rng, field: Field) -> Change {
     let pattern = (rng.bits() as u32 & 0xFFFF) >> rng.below(16) | 1;
     Change {
@@ -202,7 +202,7 @@ fn bursts_on_generated_tracks() {
 /// One bit and the one sixteen behind it.
 const SIXTEEN_APART: u32 = 1 << 16 | 1;
 
-/// Demands that home passes its check: it is refused for its fields, or sector 0's count for naming another track, and Find gives both parts as they were.
+/// Demands that home passes its check: it is refused for its flag, C or H, or sector 0's count for naming another track, and Find gives both parts as they were.
 fn home_passes(altered: Lent, change: Change, parts: [&[u8]; 2]) {
     let Field { s, opening, .. } = change.field;
     let judged = accepted(altered, change);

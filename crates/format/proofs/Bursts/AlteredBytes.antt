@@ -89,7 +89,7 @@ cell-parts q n t u m l w e s k =
         ap length (three-parts q n v) ∙ length-append (take q v) (take n (drop q v) ++ drop (q + n) v) ∙ ap (λ (j : ℕ). length (take q v) + j) (length-append (take n (drop q v)) (drop (q + n) v)) in
         omega (arith, size u, size t, ap length a, ap length b)
 
--- The n elements from place off of r on, with ns in their place.
+-- The list r with ns in the place of its n elements from place off on.
 abbrev pub putIn : ℕ → ℕ → List ℕ → List ℕ → List ℕ
 putIn off n ns r = take off r ++ (ns ++ drop (off + n) r)
 

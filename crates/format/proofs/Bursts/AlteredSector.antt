@@ -65,7 +65,7 @@ module _ (t m u : List ℕ) (a : Accepted) (e : accept t m ≡ good a) (y : Plac
   abbrev z : List ℕ
   z = putIn off n (take n (drop q u)) r
 
-  -- Then it is so.
+  -- The sector y on u, as altered.
   pub altered-sector : AlteredSector t m u a y q off n
   altered-sector =
       let pair = accepted-pair t m a e in

@@ -1,4 +1,4 @@
--- A field of n information bytes, whatever n is: after a burst in information or check the check does not follow, and the field is not closed; after two bits sixteen apart it does.
+-- A field of n information bytes, whatever n is: after a burst in information or check the check does not follow, and the field is not closed; after two bits sixteen apart are altered it does follow.
 use mathlib.Core.Path.{_≡_, refl, sym, ap, _∙_}
 use Prim.Native.Nat.{ℕ, suc, _+_, _/_, _%_, _≤_}
 use native.Mathlib.Omega.{arith}

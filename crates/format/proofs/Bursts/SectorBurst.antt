@@ -53,7 +53,7 @@ module _ (t m u : List ℕ) (a : Accepted) (y : Placed) (q off n : ℕ) (v : Alt
   opening-inside : openingLength (isFirst (v .stands .position)) + 43 ≤ length (y .span)
   opening-inside = omega (arith, span-least (a .home) (v .stands .position) (v .stands .shared) (v .stands .last) (y .span) (y .sector) (v .stands .read), rest-least (v .stands .last), gap-least (v .stands .last))
 
-  -- What follows that.
+  -- What follows the opening in that span is the altered rest.
   reached-rest : restReached reached ≡ v .rest
   reached-rest = rest-with-rest (v .stands .position) (y .span) (v .rest) (omega (arith, opening-inside))
 
@@ -61,7 +61,7 @@ module _ (t m u : List ℕ) (a : Accepted) (y : Placed) (q off n : ℕ) (v : Alt
   reached-opened : v .stands .position ≡ 0 → startsWith plainOpening (withRest (v .stands .position) (y .span) (v .rest)) ≡ true
   reached-opened = opened-with-rest (v .stands .position) (y .span) (v .rest) (omega (arith, opening-inside)) (v .stands .read .opened)
 
-  -- What was read there before.
+  -- What followed it before, by the position of the span.
   was-rest : placedRest y ≡ restOf (v .stands .position) (y .span)
   was-rest = ap (λ (b : Bool). drop (openingLength b) (y .span)) (v .stands .first-is)
 

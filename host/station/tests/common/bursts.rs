@@ -82,12 +82,12 @@ pub fn fields_of(track: &Track) -> Vec<Field> {
     fields
 }
 
-/// From the highest to the lowest 1 of a pattern, both included; a pattern is odd.
+/// How many bits from the highest to the lowest 1 of a pattern, both counted; a pattern is odd.
 pub fn width(pattern: u32) -> usize {
     (32 - pattern.leading_zeros()) as usize
 }
 
-/// The bits to alter in a field: the highest 1 of the pattern stands for the bit at the start, the lowest for the last.
+/// The bits to alter in a field: the highest 1 of the pattern stands for the bit at the start, the lowest for the last altered bit.
 #[derive(Clone, Copy, Debug)]
 pub struct Change {
     pub field: Field,
@@ -123,7 +123,7 @@ pub fn changes(field: Field, patterns: &[u32]) -> impl Iterator<Item = Change> +
     })
 }
 
-/// All patterns of one bit, of two bits and of up to so many bits, and of each greater width the one of ones alone and so many random ones.
+/// All patterns of one bit, of two bits and of a width up to `up_to`; of each greater width up to sixteen the one of ones alone, and `random` others.
 pub fn patterns(up_to: usize, random: usize) -> Vec<u32> {
     let mut patterns: BTreeSet<u32> = (0..16).map(|distance| 1 << distance | 1).collect();
     patterns.extend((1..1 << up_to).step_by(2));
