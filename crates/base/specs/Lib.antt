@@ -1,3 +1,4 @@
 -- What definitions of every crate use.
 pub mod Pick
 pub mod Lists
+pub mod Laid

@@ -1,5 +1,4 @@
--- The laws about laid lists and about what is written, one theme to a file.
-pub mod Laid
+-- The laws about what is written, one theme to a file.
 pub mod Room
 pub mod Closing
 pub mod Blocks

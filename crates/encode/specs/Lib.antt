@@ -1,5 +1,4 @@
 -- What the writers leave in the lent buffers, and when they write.
-pub mod Laid
 pub mod Room
 pub mod Bytes
 pub mod Gap

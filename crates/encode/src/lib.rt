@@ -11,7 +11,7 @@ ghost use Rattle.format.specs.Block.{keySize};
 ghost use Rattle.format.specs.GapRule.{gapOne, gapTwo, ruleTwo, gapBy, ruleRight};
 ghost use Rattle.format.specs.Written.{dataSize, innerGap, writtenBlock, writtenKey, writtenData, countOpening, writtenSector, sectorSize};
 ghost use Rattle.format.specs.Blank.{writtenHead};
-ghost use Rattle.encode.specs.Laid.{laidOver, laidAt, laidIf, laidAtIf};
+ghost use Rattle.base.specs.Laid.{laidOver, laidAt, laidIf, laidAtIf};
 ghost use Rattle.encode.specs.Room.{addressOf, sectorFrom, bothFit, sectorFits, gapFits};
 ghost use Rattle.encode.specs.Bytes.{countBytes};
 ghost use Rattle.encode.specs.Gap.{asRule};

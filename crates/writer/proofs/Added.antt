@@ -20,7 +20,7 @@ use Rattle.format.proofs.Track.Pairs.{pairOf, accepted-pair, length-bytes, leng
 use Rattle.format.proofs.Track.Sectors.{list-suffices}
 use Rattle.format.proofs.Add.NewSector.{addNeed, keptCells, length-kept, added-room}
 use Rattle.sector.specs.As.{asAddress}
-use Rattle.encode.specs.Laid.{laidOver, laidAt}
+use Rattle.base.specs.Laid.{laidOver, laidAt}
 use Rattle.encode.specs.Room.{sectorFrom}
 use Rattle.encode.proofs.Cells.{bytes-append, marks-append}
 use Rattle.sectors.specs.declared.ending.Last.{Last}

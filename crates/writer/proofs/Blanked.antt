@@ -17,7 +17,7 @@ use Rattle.format.specs.Written.{writtenSector, reach, writtenSpans, writtenBeh
 use Rattle.format.specs.Blank.{namedBy, blankRight, writtenHead, blankSector, blank}
 use Rattle.base.proofs.Tests.{and-both}
 use Rattle.format.proofs.Track.Pairs.{pairOf, length-bytes, length-marks}
-use Rattle.encode.specs.Laid.{laidOver, laidAt}
+use Rattle.base.specs.Laid.{laidOver, laidAt}
 use Rattle.format.proofs.Sector.ReadBack.{length-written}
 use Rattle.format.proofs.Written.WrittenHome.{head-length}
 use Rattle.encode.proofs.Cells.{bytes-append, marks-append}

@@ -21,7 +21,7 @@ use Rattle.format.specs.Correct.{withContent, rewrittenFrom, correctCells}
 use Rattle.base.proofs.Lists.{take-map}
 use Rattle.format.proofs.Track.Pairs.{pairOf, accepted-pair, bytes-cells, marks-cells}
 use Rattle.sector.specs.As.{asAddress}
-use Rattle.encode.specs.Laid.{laidOver, laidAt}
+use Rattle.base.specs.Laid.{laidOver, laidAt}
 use Rattle.encode.specs.Room.{sectorFrom}
 use Rattle.encode.proofs.Cells.{bytes-append, marks-append}
 use Rattle.format.proofs.Sector.ReadBack.{length-written}

@@ -18,8 +18,8 @@ use Rattle.base.proofs.Tests.{cases, and-both}
 use Rattle.format.proofs.Cells.Opening.{unmarked-replicate}
 use Rattle.format.proofs.Written.Gap.{wanted-parts}
 use Rattle.format.proofs.Track.Pairs.{length-bytes, length-marks, bytes-unmarked}
-use Rattle.encode.specs.Laid.{laidOver, laidAt, laidIf, laidAtIf}
-use Rattle.encode.proofs.Laid.{laid-behind, laid-back-if}
+use Rattle.base.specs.Laid.{laidOver, laidAt, laidIf, laidAtIf}
+use Rattle.base.proofs.Laid.{laid-behind, laid-back-if}
 use Rattle.encode.proofs.Cells.{bytes-append, marks-append, marks-unmarked}
 use Rattle.writer.specs.Filled.{filledSpan}
 

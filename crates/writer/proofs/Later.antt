@@ -14,7 +14,7 @@ use Rattle.format.specs.Accept.{Placed, sectorsOf}
 use Rattle.format.specs.GapRule.{GapRule, gapBy}
 use Rattle.format.specs.Written.{gapAfter, writtenSector, reach, writtenSpans, sectorSize}
 use Rattle.format.proofs.Track.Pairs.{length-bytes, length-marks}
-use Rattle.encode.specs.Laid.{laidAt}
+use Rattle.base.specs.Laid.{laidAt}
 use Rattle.encode.specs.Room.{sectorFrom}
 use Rattle.encode.proofs.Cells.{bytes-append, marks-append}
 use Rattle.sectors.specs.declared.SectorAt.{SectorAt as SectorCode}

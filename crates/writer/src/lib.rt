@@ -11,7 +11,7 @@ ghost use Rattle.format.specs.Block.{leastGap};
 ghost use Rattle.format.specs.GapRule.{gapBy, ruleRight, wantedRight};
 ghost use Rattle.format.specs.Written.{sectorSize};
 ghost use Rattle.format.specs.Sector.{contentRight};
-ghost use Rattle.encode.specs.Laid.{laidOver, laidAt};
+ghost use Rattle.base.specs.Laid.{laidOver, laidAt};
 ghost use Rattle.encode.specs.Room.{sectorFrom};
 ghost use Rattle.encode.specs.Gap.{asRule};
 ghost use Rattle.writer.specs.Filled.{filledSpan};

@@ -4,7 +4,7 @@ use native.Mathlib.Omega.{arith}
 use lib.ListN.{length, take}
 use lib.Seq.{length-take-le}
 use borrow.Author.Needs.{needs}
-use Rattle.encode.proofs.Laid.{laid-front}
+use Rattle.base.proofs.Laid.{laid-front}
 use Rattle.encode.proofs.Room.{both-fit, first-short, second-short}
 use Rattle.encode.proofs.copy_front.Statement.{statement}
 use Rattle.encode.proofs.copy_front.Tie as tie

@@ -4,7 +4,7 @@ use mathlib.Core.List.{_++_}
 use borrow.Author.Needs.{needs}
 use Rattle.format.specs.Opening.{plainOpening, closing}
 use Rattle.format.specs.Written.{writtenBlock}
-use Rattle.encode.proofs.Laid.{laid-next}
+use Rattle.base.proofs.Laid.{laid-next}
 use Rattle.encode.proofs.put_block.Statement.{statement}
 use Rattle.encode.proofs.put_block.Tie as tie
 

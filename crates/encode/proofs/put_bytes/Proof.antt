@@ -6,8 +6,8 @@ use native.Mathlib.Omega.{arith}
 use borrow.Author.Needs.{needs}
 use lib.ListN.{length, take, set, getD, length-set}
 use lib.Seq.{take-length}
-use Rattle.encode.specs.Laid.{laidAt}
-use Rattle.encode.proofs.Laid.{laid-none, copy-more}
+use Rattle.base.specs.Laid.{laidAt}
+use Rattle.base.proofs.Laid.{laid-none, copy-more}
 use Rattle.encode.proofs.put_bytes.Statement.{statement}
 use Rattle.encode.proofs.put_bytes.Tie as tie
 

@@ -12,7 +12,7 @@ use Rattle.format.specs.Sector.{Sector}
 use Rattle.format.specs.Written.{countInfo, countOpening}
 use Rattle.encode.specs.Room.{sectorFrom}
 use Rattle.encode.specs.Bytes.{countBytes}
-use Rattle.encode.proofs.Laid.{laid-next}
+use Rattle.base.proofs.Laid.{laid-next}
 use Rattle.encode.proofs.Openings.{length-opening}
 use Rattle.encode.proofs.put_count.Statement.{statement}
 use Rattle.encode.proofs.put_count.Tie as tie

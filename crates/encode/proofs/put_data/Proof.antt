@@ -6,8 +6,8 @@ use mathlib.Core.List.{List, [], _∷_}
 use lib.ListN.{length}
 use borrow.Author.Needs.{needs}
 use Rattle.format.specs.Opening.{plainOpening}
-use Rattle.encode.specs.Laid.{laidAt}
-use Rattle.encode.proofs.Laid.{laid-next}
+use Rattle.base.specs.Laid.{laidAt}
+use Rattle.base.proofs.Laid.{laid-next}
 use Rattle.encode.proofs.Blocks.{data-none, data-some, data-size-none, data-size-some}
 use Rattle.encode.proofs.put_data.Statement.{statement}
 use Rattle.encode.proofs.put_data.Tie as tie

@@ -5,8 +5,8 @@ use borrow.Author.Needs.{needs}
 use Prim.Native.Nat.{ℕ}
 use mathlib.Core.List.{List}
 use Rattle.format.specs.Opening.{closing}
-use Rattle.encode.specs.Laid.{laidAt}
-use Rattle.encode.proofs.Laid.{laid-next}
+use Rattle.base.specs.Laid.{laidAt}
+use Rattle.base.proofs.Laid.{laid-next}
 use Rattle.encode.proofs.Closing.{closing-stored}
 use Rattle.encode.proofs.put_field.Statement.{statement}
 use Rattle.encode.proofs.put_field.Tie as tie

@@ -2,7 +2,7 @@
 use native.Mathlib.Omega.{arith}
 use lib.ListN.{replicate}
 use borrow.Author.Needs.{needs}
-use Rattle.encode.proofs.Laid.{laid-next}
+use Rattle.base.proofs.Laid.{laid-next}
 use Rattle.encode.proofs.put_gap.Statement.{statement}
 use Rattle.encode.proofs.put_gap.Tie as tie
 

@@ -9,9 +9,9 @@ use Rattle.format.specs.Address.{addressBytes}
 use Rattle.format.specs.Written.{homeGap, writtenBlock}
 use Rattle.format.specs.Blank.{writtenHead}
 use Rattle.format.proofs.Cells.Field.{length-block}
-use Rattle.encode.specs.Laid.{laidAt}
+use Rattle.base.specs.Laid.{laidAt}
 use Rattle.encode.specs.Room.{addressOf}
-use Rattle.encode.proofs.Laid.{laid-next}
+use Rattle.base.proofs.Laid.{laid-next}
 use Rattle.encode.proofs.put_head.Statement.{statement}
 use Rattle.encode.proofs.put_head.Tie as tie
 

@@ -6,8 +6,8 @@ use mathlib.Core.List.{List}
 use lib.ListN.{length}
 use borrow.Author.Needs.{needs}
 use Rattle.format.specs.Written.{innerGap, writtenBlock}
-use Rattle.encode.specs.Laid.{laidAt}
-use Rattle.encode.proofs.Laid.{laid-none, laid-next}
+use Rattle.base.specs.Laid.{laidAt}
+use Rattle.base.proofs.Laid.{laid-none, laid-next}
 use Rattle.encode.proofs.Blocks.{key-none, key-some, key-size-none, key-size-some}
 use Rattle.encode.proofs.put_key.Statement.{statement}
 use Rattle.encode.proofs.put_key.Tie as tie

@@ -5,8 +5,8 @@ use native.Mathlib.Omega.{arith}
 use mathlib.Core.List.{List, [], _∷_}
 use lib.ListN.{replicate}
 use borrow.Author.Needs.{needs}
-use Rattle.encode.specs.Laid.{laidAt}
-use Rattle.encode.proofs.Laid.{laid-next}
+use Rattle.base.specs.Laid.{laidAt}
+use Rattle.base.proofs.Laid.{laid-next}
 use Rattle.encode.proofs.Openings.{opening-first, opening-later, marks-first, marks-later}
 use Rattle.encode.proofs.put_marks.Statement.{statement}
 use Rattle.encode.proofs.put_marks.Tie as tie

@@ -4,7 +4,7 @@ use Prim.Native.Nat.{ℕ}
 use native.Mathlib.Omega.{arith}
 use mathlib.Core.List.{List}
 use borrow.Author.Needs.{needs}
-use Rattle.encode.specs.Laid.{laidAt}
+use Rattle.base.specs.Laid.{laidAt}
 use Rattle.encode.proofs.Openings.{opening-first, opening-later, bytes-first, bytes-later}
 use Rattle.encode.proofs.put_opening.Statement.{statement}
 use Rattle.encode.proofs.put_opening.Tie as tie

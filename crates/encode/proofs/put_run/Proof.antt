@@ -5,8 +5,8 @@ use Prim.Native.Nat.{ℕ, _+_, _-_, _≤_}
 use native.Mathlib.Omega.{arith}
 use borrow.Author.Needs.{needs}
 use lib.ListN.{length, set, replicate, length-set}
-use Rattle.encode.specs.Laid.{laidAt}
-use Rattle.encode.proofs.Laid.{laid-none, run-more}
+use Rattle.base.specs.Laid.{laidAt}
+use Rattle.base.proofs.Laid.{laid-none, run-more}
 use Rattle.encode.proofs.put_run.Statement.{statement}
 use Rattle.encode.proofs.put_run.Tie as tie
 

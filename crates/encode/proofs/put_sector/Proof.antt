@@ -13,7 +13,7 @@ use Rattle.format.proofs.Cells.Field.{length-key}
 use Rattle.format.proofs.Sector.Valid.{FitsCount}
 use Rattle.encode.specs.Room.{sectorFrom}
 use Rattle.encode.specs.Bytes.{countBytes}
-use Rattle.encode.proofs.Laid.{laid-as, laid-next}
+use Rattle.base.proofs.Laid.{laid-as, laid-next}
 use Rattle.format.proofs.Cells.Opening.{unmarked-below}
 use Rattle.encode.proofs.Sectors.{count-length, sector-bytes}
 use Rattle.encode.proofs.put_sector.Statement.{statement}

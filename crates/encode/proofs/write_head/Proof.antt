@@ -4,7 +4,7 @@ use Prim.Native.Nat.{_<_}
 use native.Mathlib.Omega.{arith}
 use lib.ListN.{length}
 use borrow.Author.Needs.{needs}
-use Rattle.encode.proofs.Laid.{laid-as}
+use Rattle.base.proofs.Laid.{laid-as}
 use Rattle.encode.proofs.Room.{both-fit, first-short, second-short}
 use Rattle.encode.proofs.Sectors.{head-bytes, head-marks}
 use Rattle.encode.proofs.write_head.Statement.{statement}

@@ -9,7 +9,7 @@ use Rattle.format.specs.Sector.{Sector}
 use Rattle.format.specs.Written.{writtenSector, sectorSize}
 use Rattle.format.proofs.Sector.Valid.{FitsCount}
 use Rattle.encode.specs.Room.{sectorFrom}
-use Rattle.encode.proofs.Laid.{laid-as}
+use Rattle.base.proofs.Laid.{laid-as}
 use Rattle.encode.proofs.Room.{first-short, second-short}
 use Rattle.format.proofs.Cells.Opening.{unmarked-below}
 use Rattle.format.proofs.Sector.ReadBack.{length-written}

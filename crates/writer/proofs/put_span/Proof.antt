@@ -11,9 +11,9 @@ use Rattle.format.specs.Lent.{bytesOf, marksOf}
 use Rattle.format.specs.Sector.{Sector}
 use Rattle.format.specs.Written.{writtenSector}
 use Rattle.format.proofs.Track.Pairs.{length-bytes, length-marks}
-use Rattle.encode.specs.Laid.{laidAt}
+use Rattle.base.specs.Laid.{laidAt}
 use Rattle.encode.specs.Room.{sectorFrom}
-use Rattle.encode.proofs.Laid.{length-laid}
+use Rattle.base.proofs.Laid.{length-laid}
 use Rattle.encode.proofs.Room.{gap-fits}
 use Rattle.format.proofs.Sector.ReadBack.{length-written}
 use Rattle.encode.proofs.Sectors.{sector-fits}

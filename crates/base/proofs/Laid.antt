@@ -9,8 +9,8 @@ use native.Mathlib.Numerals.{add-one}
 use lib.ListN.{length, take, drop, set, getD, replicate, length-replicate, length-drop, length-append, take-append-drop, drop-of-length-le, replicate-append-replicate}
 use lib.Seq.{take-suc, drop-drop, take-at, drop-at, set-split, length-take-le}
 use borrow.Rule.Slice.PartMut.{putMid, put-same}
 use Rattle.base.proofs.Lists.{part-all, part-all as part-rest}
-use Rattle.encode.specs.Laid.{laidOver, laidAt, laidIf, laidAtIf}
+use Rattle.base.specs.Laid.{laidOver, laidAt, laidIf, laidAtIf}
 
 -- Laid at place 0 is laid over the front.
 pub laid-front : (xs old : List ℕ) → laidAt 0 xs old ≡ laidOver xs old
@@ -42,6 +42,12 @@ length-over xs old h = simp (length-append, length-drop) (omega arith)
 at-seam : (p r v : List ℕ) (n : ℕ) → length p ≡ n → laidAt n v (p ++ r) ≡ p ++ (v ++ drop (length v) r)
 unfolding laidAt
 at-seam p r v n e = rw (take-at p r n e, ← drop-drop (length v) n (p ++ r), drop-at p r n e)
+
+-- A list laid right behind one that lies over the front is the two laid as one.
+pub over-next : (p : ℕ) (xs ys old new last : List ℕ) → p ≡ length xs → new ≡ laidOver xs old → last ≡ laidAt p ys new → last ≡ laidOver (xs ++ ys) old
+unfolding laidOver
+over-next p xs ys old new last e f g =
+    g ∙ ap (laidAt p ys) f ∙ at-seam xs (drop (length xs) old) ys p (sym e) ∙ simp (append-assoc, drop-drop, length-append)
 
 -- A list laid right behind another is the two laid as one.
 pub laid-behind : (a : ℕ) (xs ys old : List ℕ) → a ≤ length old → laidAt (a + length xs) ys (laidAt a xs old) ≡ laidAt a (xs ++ ys) old
