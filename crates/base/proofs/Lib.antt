@@ -3,3 +3,4 @@ pub mod Tests
 pub mod Lists
 pub mod Filled
 pub mod Laid
+pub mod Indexed

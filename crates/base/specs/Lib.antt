@@ -2,3 +2,4 @@
 pub mod Pick
 pub mod Lists
 pub mod Laid
+pub mod Indexed
