@@ -98,3 +98,23 @@ pairWrong = answerAt 16 0
 -- 17: the bit cells of the byte at p are no legal pattern, or its mark stands on another value than FF.
 abbrev pub patternWrong : ℕ → Answer
 patternWrong p = answerAt 17 p
+
+-- 18: the number of tracks is not 1 to 10, or the zero field of a cylinder's file is not zero.
+abbrev pub headerWrong : Answer
+headerWrong = answerAt 18 0
+
+-- 19: an offset in the table of a cylinder's file is not where the track stands.
+abbrev pub offsetWrong : Answer
+offsetWrong = answerAt 19 0
+
+-- 20: a cylinder's file ends within its header or its table, or has another length than its table gives.
+abbrev pub fileLengthWrong : Answer
+fileLengthWrong = answerAt 20 0
+
+-- 21: a spare bit behind the marks of a track is set in a cylinder's file.
+abbrev pub spareBitsSet : Answer
+spareBitsSet = answerAt 21 0
+
+-- 24: a slice or list that is lent to be filled is too short.
+abbrev pub bufferTooShort : Answer
+bufferTooShort = answerAt 24 0

@@ -1,7 +1,7 @@
 // The answer of a call as code, made in one place for each row of the table.
 ghost use mathlib.Core.Path.{_≡_};
 ghost use Rattle.format.specs.Fault.{asFault, faultNumber};
-ghost use Rattle.format.specs.Answer.{asAnswer, answerAt, faultAt, done, lentWrong, homeMissing, homeCheckWrong, homeFieldsWrong, markStray, firstCountMissing, countCheckWrong, countFieldsWrong, spanTooShort, keyWrong, dataWrong, sectorMissing, sectorRepeated, wantedWrong, roomMissing, pairWrong, patternWrong};
+ghost use Rattle.format.specs.Answer.{asAnswer, answerAt, faultAt, done, lentWrong, homeMissing, homeCheckWrong, homeFieldsWrong, markStray, firstCountMissing, countCheckWrong, countFieldsWrong, spanTooShort, keyWrong, dataWrong, sectorMissing, sectorRepeated, wantedWrong, roomMissing, pairWrong, patternWrong, headerWrong, offsetWrong, fileLengthWrong, spareBitsSet, bufferTooShort};
 
 pub mod layout;
 
@@ -176,4 +176,39 @@ pub fn pattern_wrong(p: usize) -> Answer
     ensures { λ r. ⌜ asAnswer r ≡ patternWrong p ⌝ }
 {
     answer_at(17, p)
+}
+
+// 18: the number of tracks is not 1 to 10, or the zero field of a cylinder's file is not zero.
+pub fn header_wrong() -> Answer
+    ensures { λ r. ⌜ asAnswer r ≡ headerWrong ⌝ }
+{
+    answer_at(18, 0)
+}
+
+// 19: an offset in the table of a cylinder's file is not where the track stands.
+pub fn offset_wrong() -> Answer
+    ensures { λ r. ⌜ asAnswer r ≡ offsetWrong ⌝ }
+{
+    answer_at(19, 0)
+}
+
+// 20: a cylinder's file ends within its header or its table, or has another length than its table gives.
+pub fn file_length_wrong() -> Answer
+    ensures { λ r. ⌜ asAnswer r ≡ fileLengthWrong ⌝ }
+{
+    answer_at(20, 0)
+}
+
+// 21: a spare bit behind the marks of a track is set in a cylinder's file.
+pub fn spare_bits_set() -> Answer
+    ensures { λ r. ⌜ asAnswer r ≡ spareBitsSet ⌝ }
+{
+    answer_at(21, 0)
+}
+
+// 24: a slice or list that is lent to be filled is too short.
+pub fn buffer_too_short() -> Answer
+    ensures { λ r. ⌜ asAnswer r ≡ bufferTooShort ⌝ }
+{
+    answer_at(24, 0)
 }

@@ -22,7 +22,7 @@ use format::layout::PLAIN_OPENING;
 use format::layout::SHORTEST;
 
 // Whether L is in range, 3,815 to 4,002.
-fn length_right(l: usize) -> bool
+pub fn length_right(l: usize) -> bool
     ensures { λ r. ⌜ r ≡ lengthRight l ⌝ }
 {
     if l < SHORTEST {
@@ -42,7 +42,7 @@ pub fn lent_for_writing(l: usize, k: usize) -> bool
 }
 
 // Whether every mark is 0 or 1.
-fn marks_legal(marks: &[u8]) -> bool
+pub fn marks_legal(marks: &[u8]) -> bool
     ensures { λ r. ⌜ r ≡ marksLegal (now (marks .entry)) ⌝ }
 {
     let mut i = 0;

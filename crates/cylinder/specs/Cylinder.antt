@@ -1,0 +1,53 @@
+-- A lent cylinder: the tracks of its heads without holes in one list, their marks in another, and their Ls.
+use Prim.Native.Nat.{ℕ}
+use mathlib.Core.Bool.{Bool, _&&_}
+use mathlib.Core.List.{List}
+use lib.ListN.{length, take, drop, getD}
+use lib.Dec.{leb, eqb}
+use Rattle.base.specs.Indexed.{sumTo, allTo}
+use Rattle.format.specs.Lent.{lengthRight, marksLegal}
+
+-- The bytes of all tracks, a mark for each byte, and L of each track.
+pub record Cylinder : Type 0 where
+  pub tracks : List ℕ
+  pub marks : List ℕ
+  pub lengths : List ℕ
+
+-- The number n of its tracks.
+abbrev pub trackCount : Cylinder → ℕ
+trackCount c = length (c .lengths)
+
+-- L of track k.
+abbrev pub lengthOf : List ℕ → ℕ → ℕ
+lengthOf ls k = getD ls k 0
+
+-- The place at which track k starts in both slices: behind all tracks before it.
+abbrev pub startOf : List ℕ → ℕ → ℕ
+startOf ls k = sumTo (lengthOf ls) k
+
+-- The part of a slice that belongs to track k.
+unfoldable pub partOf : List ℕ → List ℕ → ℕ → List ℕ
+partOf ls xs k = take (lengthOf ls k) (drop (startOf ls k) xs)
+
+-- Track k, and its marks.
+abbrev pub trackOf : Cylinder → ℕ → List ℕ
+trackOf c k = partOf (c .lengths) (c .tracks) k
+
+abbrev pub trackMarksOf : Cylinder → ℕ → List ℕ
+trackMarksOf c k = partOf (c .lengths) (c .marks) k
+
+-- The number of tracks is 1 to 10.
+unfoldable pub trackCountRight : ℕ → Bool
+trackCountRight n = leb 1 n && leb n 10
+
+-- The first n of the lengths l are those of tracks.
+unfoldable pub lengthsRight : (ℕ → ℕ) → ℕ → Bool
+lengthsRight l n = allTo (λ k. lengthRight (l k)) n
+
+-- A cylinder is lent for reading within the rule: every L in range, both slices as long as the Ls together, and every mark 0 or 1.
+unfoldable pub cylinderLent : Cylinder → Bool
+cylinderLent c =
+    lengthsRight (lengthOf (c .lengths)) (trackCount c)
+    && (eqb (length (c .tracks)) (startOf (c .lengths) (trackCount c))
+    && (eqb (length (c .marks)) (startOf (c .lengths) (trackCount c))
+    && marksLegal (c .marks)))
