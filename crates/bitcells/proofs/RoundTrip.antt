@@ -6,15 +6,16 @@ use mathlib.Core.Bool.{Bool, true, false}
 use mathlib.Core.List.{List, [], _∷_}
 use lib.ListN.{length, getD}
 use lib.Seq.{ext-getD}
-use lib.Dec.{ltb, eqb}
-use borrow.Author.Tests.{ltb-true, lt-ltb, eqb-true, eqb-false, eq-eqb}
+use lib.Dec.{eqb}
+use borrow.Author.Tests.{eqb-true, eqb-false, eq-eqb}
 use Rattle.crc.specs.Halves.{AllBytes}
-use Rattle.crc.proofs.Bytes.{all-bytes}
+use Rattle.crc.proofs.Bytes.{all-bytes, byte-at}
 use Rattle.format.specs.Answer.{lentWrong}
 use Rattle.format.specs.Judged.{good}
 use Rattle.format.specs.Lent.{lengthRight, marksLegal, lentForWriting, lentForReading}
 use Rattle.format.specs.Written.{Pair}
 use Rattle.format.proofs.Base.Judged.{good-inj, then-good, require-good}
+use Rattle.format.proofs.Base.Marks.{mark-at, marks-at}
 use Rattle.base.proofs.Tests.{cases, and-both, and-make}
 use Rattle.format.proofs.Track.Pairs.{lent-marks}
 use Rattle.pattern.specs.Pattern.{firstCells, secondCells, clocksFor, recordable, clocksIn, dataIn, legalPattern, markIn, cellBytes}
@@ -26,25 +27,6 @@ use Rattle.pattern.proofs.Inverse.{data-written, first-read, second-read, data-
 use Rattle.bitcells.proofs.Each.{length-pattern, getD-pattern, length-each, getD-each, pattern-written, length-written}
 use Rattle.bitcells.proofs.FirstFault.{each-holds, holds-each}
 use Rattle.pattern.proofs.Legal.{legal-written, mark-written, legal-clocks, legal-marked, mark-legal}
-
--- Bytes are bytes place by place.
-pub byte-at : (t : List ℕ) → AllBytes t → (i : ℕ) → i < length t → getD t i 0 < 256
-unfolding AllBytes
-byte-at [] h i l = absurd (omega arith)
-byte-at (b ∷ t) h zero l = h .0
-byte-at (b ∷ t) h (suc i) l = byte-at t (h .1) i (omega arith)
-
--- Legal marks are 0 or 1 place by place, and the reverse.
-pub mark-at : (m : List ℕ) → marksLegal m ≡ true → (i : ℕ) → i < length m → getD m i 0 < 2
-unfolding marksLegal
-mark-at [] h i l = absurd (omega arith)
-mark-at (k ∷ m) h zero l = ltb-true k 2 (and-both (ltb k 2) (marksLegal m) h .0)
-mark-at (k ∷ m) h (suc i) l = mark-at m (and-both (ltb k 2) (marksLegal m) h .1) i (omega arith)
-
-marks-at : (m : List ℕ) → ((i : ℕ) → i < length m → getD m i 0 < 2) → marksLegal m ≡ true
-unfolding marksLegal
-marks-at [] h = refl
-marks-at (k ∷ m) h = and-make (lt-ltb k 2 (h 0 (omega arith))) (marks-at m (λ i l. h (suc i) (omega arith)))
 
 -- The marks of a pair that is lent within the rule are legal.
 pub lent-legal : (t m : List ℕ) → lentForReading t m ≡ true → marksLegal m ≡ true

@@ -1,2 +1,3 @@
--- What every group stands on: outcomes and lists taken apart.
+-- What every group stands on: outcomes taken apart, and marks place by place.
 pub mod Judged
+pub mod Marks
