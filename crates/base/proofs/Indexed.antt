@@ -1,7 +1,8 @@
 -- Sums, joined lists and tests of the first n: the next one, equal ones, and one of them alone.
 use mathlib.Core.Path.{_≡_, refl, sym, ap, _∙_}
-use Prim.Native.Nat.{ℕ, zero, suc, _+_, _≤_, _<_}
+use Prim.Native.Nat.{ℕ, zero, suc, _+_, _*_, _≤_, _<_}
 use native.Mathlib.Omega.{arith}
+use native.Mathlib.Nat.{zero-mul, suc-mul}
 use native.Mathlib.Numerals.{add-one}
 use mathlib.Core.Bool.{Bool, true, false, _&&_}
 use mathlib.Core.List.{List, [], _∷_, _++_, append-assoc}
@@ -35,6 +36,12 @@ pub sum-same : (f g : ℕ → ℕ) (n : ℕ) → ((k : ℕ) → k < n → f k �
 unfolding sumTo
 sum-same f g zero h = refl
 sum-same f g (suc n) h = rw (sum-same f g n (λ k l. h k (omega arith)), h n (omega arith))
+
+-- Equal summands are as many times one of them.
+pub sum-const : (d n : ℕ) → sumTo (λ k. d) n ≡ n * d
+unfolding sumTo
+sum-const d zero = sym (zero-mul d)
+sum-const d (suc n) = rw (sum-const d n) (sym (suc-mul n d))
 
 -- One more test.
 pub all-next : (p : ℕ → Bool) (n : ℕ) → allTo p (n + 1) ≡ (allTo p n && p n)

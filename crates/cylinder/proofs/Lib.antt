@@ -1,1 +1,11 @@
--- The laws of a cylinder's file.
+-- The laws of a cylinder's file: packed marks, lengths, what is known of a file that is read, the round trip, and the answers.
+pub mod Packed
+pub mod Sizes
+pub mod Sound
+pub mod Parts
+pub mod WrittenFile
+pub mod HeldCylinder
+pub mod RoundTrip
+pub mod Tells
+pub mod Answers
+pub mod Places

@@ -4,3 +4,4 @@ pub mod Packed
 pub mod File
 pub mod Writing
 pub mod Reading
+pub mod Answers

@@ -1,0 +1,194 @@
+-- The cylinder that a sound file holds: it is lent within the rule, and its file is the same file.
+use mathlib.Core.Path.{_≡_, refl, sym, ap, ap₂, _∙_}
+use Prim.Native.Nat.{ℕ, zero, suc, _+_, _*_, _/_, _%_, _≤_, _<_}
+use native.Mathlib.Omega.{arith}
+use native.Mathlib.Numerals.{add-one}
+use mathlib.Core.Bool.{true}
+use mathlib.Core.List.{List, [], _∷_, _++_, append-nil}
+use lib.ListN.{length, take, drop, getD, take-append-drop, length-drop}
+use lib.Seq.{take-all, take-add, drop-drop, drop-cons}
+use lib.Dec.{ltb, eqb}
+use borrow.Author.Tests.{eqb-true, eq-eqb}
+use Rattle.base.specs.Indexed.{sumTo, joinTo}
+use Rattle.base.proofs.Indexed.{sum-same, sum-const, all-same, all-holds, length-join, join-part, join-same, join-cut, length-list, getD-list}
+use Rattle.base.proofs.Lists.{part-length}
+use Rattle.base.proofs.Tests.{and-both, and-make}
+use Rattle.crc.specs.Halves.{AllBytes}
+use Rattle.crc.proofs.Bytes.{all-bytes, byte-at}
+use Rattle.format.specs.Lent.{lengthRight, marksLegal}
+use Rattle.cylinder.specs.Cylinder.{trackCount, lengthOf, startOf, partOf, trackCountRight, lengthsRight, cylinderLent}
+use Rattle.cylinder.specs.Packed.{packedSize, packed, spareClear}
+use Rattle.cylinder.specs.File.{twoBytes, fourBytes, headerLength, entryLength, tableEnd, storedSize, offsetOf, header, entry, table, storedTrack, storedTracks, cylinderFile}
+use Rattle.cylinder.specs.Reading.{twoBytesAt, fourBytesAt, trackCountIn, zeroField, lengthIn, offsetIn, offsetDue, trackIn, packedIn, marksIn, headerRight, offsetsRight, sparesClear, cylinderIn}
+use Rattle.cylinder.proofs.Sound.{SoundFile, offset-next, offset-grows}
+use Rattle.cylinder.proofs.Packed.{length-unpacked, packed-unpacked, unpacked-legal}
+use Rattle.cylinder.proofs.Parts.{part-keeps, part-joined}
+
+-- Legal marks behind legal marks are legal.
+legal-append : (a b : List ℕ) → marksLegal a ≡ true → marksLegal b ≡ true → marksLegal (a ++ b) ≡ true
+unfolding marksLegal
+legal-append [] b e h = h
+legal-append (k ∷ a) b e h = let q = and-both (ltb k 2) (marksLegal a) e in and-make (q .0) (legal-append a b (q .1) h)
+
+-- Legal marks joined are legal.
+legal-join : (x : ℕ → List ℕ) (n : ℕ) → ((k : ℕ) → marksLegal (x k) ≡ true) → marksLegal (joinTo x n) ≡ true
+unfolding joinTo marksLegal
+legal-join x zero e = refl
+legal-join x (suc n) e = legal-append (joinTo x n) (x n) (legal-join x n e) (e n)
+
+-- Two bytes that are read and written are the same bytes.
+two-back : (f : List ℕ) (p : ℕ) → AllBytes f → p + 2 ≤ length f → twoBytes (twoBytesAt f p) ≡ take 2 (drop p f)
+unfolding twoBytes twoBytesAt
+two-back f p b h =
+    let l : p < length f = omega arith in
+    let m : suc p < length f = omega arith in
+    let v = byte-at f b (suc p) m in
+    rw (drop-cons f p 0 l, drop-cons f (suc p) 0 m, add-one p) (pair-back (getD f p 0) (getD f (suc p) 0) v)
+  where
+    pair-back : (x y : ℕ) → y < 256 → _≡_ {A = List ℕ} ((x * 256 + y) / 256 ∷ (x * 256 + y) % 256 ∷ []) (x ∷ y ∷ [])
+    pair-back x y h = ap₂ (λ (a b : ℕ). a ∷ b ∷ []) (omega arith) (omega arith)
+
+-- The four bytes of a number are the two of its upper half and the two of its lower half.
+halves-back : (x y : ℕ) → y < 65536 → fourBytes (x * 65536 + y) ≡ twoBytes x ++ twoBytes y
+unfolding twoBytes fourBytes
+halves-back x y h =
+    let a : (x * 65536 + y) / 16777216 ≡ x / 256 = omega arith in
+    let b : (x * 65536 + y) / 65536 % 256 ≡ x % 256 = omega arith in
+    let c : (x * 65536 + y) / 256 % 256 ≡ y / 256 = omega arith in
+    let d : (x * 65536 + y) % 256 ≡ y % 256 = omega arith in
+    rw (a, b, c, d)
+
+-- Four bytes that are read and written are the same bytes.
+four-back : (f : List ℕ) (p : ℕ) → AllBytes f → p + 4 ≤ length f → fourBytes (fourBytesAt f p) ≡ take 4 (drop p f)
+unfolding fourBytesAt twoBytesAt
+four-back f p b h =
+    let u = byte-at f b (p + 2) (omega arith) in
+    let v = byte-at f b (p + 2 + 1) (omega arith) in
+    halves-back (twoBytesAt f p) (twoBytesAt f (p + 2)) (omega arith)
+    ∙ ap₂ (λ (x y : List ℕ). x ++ y) (two-back f p b (omega arith)) (two-back f (p + 2) b (omega arith))
+    ∙ sym (part-joined p 2 2 f)
+
+module _ (f : List ℕ) (s : SoundFile f) where
+  -- Each track lies in the file.
+  track-inside : (k : ℕ) → k < trackCountIn f → offsetDue f k + storedSize (lengthIn f k) ≤ length f
+  unfolding offsetDue
+  track-inside k h =
+      omega (arith, s .length-due, offset-next (trackCountIn f) (lengthIn f) k, offset-grows (trackCountIn f) (lengthIn f) (k + 1) (trackCountIn f) (omega arith))
+
+  -- Its bytes are as many as its L says,
+  length-track : (k : ℕ) → k < trackCountIn f → length (trackIn f k) ≡ lengthIn f k
+  unfolding trackIn
+  length-track k h = part-length (offsetDue f k) (lengthIn f k) f (omega (arith, track-inside k h))
+
+  -- and so are its marks.
+  length-marks : (k : ℕ) → k < trackCountIn f → length (marksIn f k) ≡ lengthIn f k
+  unfolding marksIn
+  length-marks k h = length-unpacked (lengthIn f k) (packedIn f k)
+
+  -- The cylinder has as many tracks as the file names,
+  held-count : trackCount (cylinderIn f) ≡ trackCountIn f
+  held-count = length-list (lengthIn f) (trackCountIn f)
+
+  -- of the same Ls,
+  held-length : (k : ℕ) → k < trackCountIn f → lengthOf (cylinderIn f .lengths) k ≡ lengthIn f k
+  held-length k h = getD-list (lengthIn f) (trackCountIn f) k 0 h
+
+  -- so that they start where the Ls before them end.
+  held-start : (k : ℕ) → k ≤ trackCountIn f → startOf (cylinderIn f .lengths) k ≡ sumTo (lengthIn f) k
+  held-start k h = sum-same _ _ k (λ j l. held-length j (omega arith))
+
+  -- Lists of these lengths, joined, are as long as the Ls together,
+  length-held : (x : ℕ → List ℕ) → ((k : ℕ) → k < trackCountIn f → length (x k) ≡ lengthIn f k) → (k : ℕ) → k ≤ trackCountIn f → length (joinTo x k) ≡ sumTo (lengthIn f) k
+  length-held x e k h = length-join x k ∙ sum-same _ _ k (λ j l. e j (omega arith))
+
+  -- and cut into tracks they are the same lists again.
+  part-held : (x : ℕ → List ℕ) → ((k : ℕ) → k < trackCountIn f → length (x k) ≡ lengthIn f k) → (k : ℕ) → k < trackCountIn f
+      → partOf (cylinderIn f .lengths) (joinTo x (trackCountIn f)) k ≡ x k
+  unfolding partOf
+  part-held x e k h =
+      let j = join-part x (trackCountIn f) k [] h in
+      rw (held-length k h, held-start k (omega arith)) (rw (append-nil (joinTo x (trackCountIn f)), e k h, length-held x e k (omega arith)) at j)
+
+  -- The cylinder is lent within the rule.
+  pub lent-held : cylinderLent (cylinderIn f) ≡ true
+  unfolding cylinderLent lengthsRight marksIn
+  lent-held =
+      let n : ℕ = trackCountIn f in
+      rw held-count
+      (and-make (all-same _ _ n (λ k h. ap lengthRight (held-length k h)) ∙ s .lengths-right)
+      (and-make (eq-eqb _ _ (length-held (trackIn f) length-track n (omega arith) ∙ sym (held-start n (omega arith))))
+      (and-make (eq-eqb _ _ (length-held (marksIn f) length-marks n (omega arith) ∙ sym (held-start n (omega arith))))
+      (legal-join (marksIn f) n (λ k. unpacked-legal (lengthIn f k) (packedIn f k))))))
+
+  -- Its tracks are as many as the rule allows.
+  pub count-held : trackCountRight (trackCount (cylinderIn f)) ≡ true
+  unfolding headerRight
+  count-held = ap trackCountRight held-count ∙ and-both (trackCountRight (trackCountIn f)) (eqb (zeroField f) 0) (s .header-right) .0
+
+  module _ (bytes : AllBytes f) where
+    -- Its header is that of the file.
+    header-back : header (trackCountIn f) ≡ take headerLength f
+    unfolding header headerRight trackCountIn zeroField twoBytes
+    header-back =
+        let z = eqb-true (zeroField f) 0 (and-both (trackCountRight (trackCountIn f)) (eqb (zeroField f) 0) (s .header-right) .1) in
+        let h = s .header-there in
+        ap₂ (λ (x y : List ℕ). x ++ y) (two-back f 0 bytes (omega arith)) (ap twoBytes (sym z) ∙ two-back f 2 bytes (omega arith))
+        ∙ sym (part-joined 0 2 2 f)
+
+    -- The offset of each track is the one in the file.
+    offset-held : (k : ℕ) → k < trackCountIn f → offsetOf (trackCountIn f) (lengthOf (cylinderIn f .lengths)) k ≡ offsetIn f k
+    unfolding offsetOf offsetsRight offsetDue
+    offset-held k h =
+        let o = eqb-true (offsetIn f k) (offsetDue f k) (all-holds (λ j. eqb (offsetIn f j) (offsetDue f j)) (trackCountIn f) k (s .offsets-right) h) in
+        let t = sum-same (λ j. storedSize (lengthOf (cylinderIn f .lengths) j)) (λ j. storedSize (lengthIn f j)) k (λ j l. ap storedSize (held-length j (omega arith))) in
+        omega (arith, o, t)
+
+    -- Each entry of its table is the one in the file,
+    entry-back : (k : ℕ) → k < trackCountIn f → entry (trackCountIn f) (lengthOf (cylinderIn f .lengths)) k ≡ take entryLength (drop (tableEnd k) f)
+    unfolding entry lengthIn offsetIn
+    entry-back k h =
+        let t = s .table-there in
+        ap₂ (λ (x y : List ℕ). x ++ y)
+        (ap twoBytes (held-length k h) ∙ two-back f (tableEnd k) bytes (omega arith))
+        (ap fourBytes (offset-held k h) ∙ four-back f (tableEnd k + 2) bytes (omega arith))
+        ∙ sym (part-joined (tableEnd k) 2 4 f)
+
+    -- and so the table is.
+    table-back : joinTo (entry (trackCountIn f) (lengthOf (cylinderIn f .lengths))) (trackCountIn f) ≡ take (trackCountIn f * entryLength) (drop headerLength f)
+    table-back =
+        let n : ℕ = trackCountIn f in
+        join-same _ (λ k. take entryLength (drop (sumTo (λ j. entryLength) k) (drop headerLength f))) n
+        (λ k h. entry-back k h ∙ ap (take entryLength) (sym (drop-drop (k * entryLength) headerLength f) ∙ ap (λ (p : ℕ). drop p (drop headerLength f)) (sym (sum-const entryLength k))))
+        ∙ join-cut (λ j. entryLength) (drop headerLength f) n
+        ∙ ap (λ (p : ℕ). take p (drop headerLength f)) (sum-const entryLength n)
+
+    -- Each track stands in its file as in the file,
+    stored-back : (k : ℕ) → k < trackCountIn f → storedTrack (cylinderIn f) k ≡ take (storedSize (lengthIn f k)) (drop (offsetDue f k) f)
+    unfolding storedTrack marksIn trackIn packedIn sparesClear
+    stored-back k h =
+        let l : ℕ = lengthIn f k in
+        let p : ℕ = offsetDue f k + l in
+        let b : AllBytes (packedIn f k) = all-bytes (packedIn f k) (part-keeps (λ (z : ℕ). z < 256) p (packedSize l) f (byte-at f bytes)) in
+        let e : length (packedIn f k) ≡ packedSize l = part-length p (packedSize l) f (omega (arith, track-inside k h)) in
+        let c = all-holds (λ j. spareClear (lengthIn f j) (packedIn f j)) (trackCountIn f) k (s .spares-clear) h in
+        ap₂ (λ (x y : List ℕ). x ++ packed y) (part-held (trackIn f) length-track k h) (part-held (marksIn f) length-marks k h)
+        ∙ ap (λ (x : List ℕ). trackIn f k ++ x) (packed-unpacked l (packedIn f k) e b c)
+        ∙ sym (part-joined (offsetDue f k) l (packedSize l) f)
+
+    -- and so all of them do.
+    tracks-back : joinTo (storedTrack (cylinderIn f)) (trackCountIn f) ≡ drop (tableEnd (trackCountIn f)) f
+    unfolding offsetDue offsetOf
+    tracks-back =
+        let n : ℕ = trackCountIn f in
+        let z : ℕ → ℕ = λ j. storedSize (lengthIn f j) in
+        let r : List ℕ = drop (tableEnd n) f in
+        join-same _ (λ k. take (z k) (drop (sumTo z k) r)) n (λ k h. stored-back k h ∙ ap (take (z k)) (sym (drop-drop (sumTo z k) (tableEnd n) f)))
+        ∙ join-cut z r n
+        ∙ take-all (sumTo z n) r (omega (arith, length-drop (tableEnd n) f, s .length-due))
+
+    -- The file of the cylinder is the file.
+    pub file-back : cylinderFile (cylinderIn f) ≡ f
+    unfolding cylinderFile table storedTracks
+    file-back =
+        let n : ℕ = trackCountIn f in
+        rw (held-count, header-back, table-back, tracks-back, ← (take-add headerLength (n * entryLength) f)) (take-append-drop (tableEnd n) f)

@@ -1,0 +1,89 @@
+-- A cylinder that is written is read as the same cylinder, and a file that is read is written as the same file.
+use mathlib.Core.Path.{_≡_, sym, ap, _∙_, subst}
+use Prim.Native.Nat.{ℕ, _≤_}
+use native.Mathlib.Omega.{arith}
+use mathlib.Core.Bool.{true}
+use mathlib.Core.List.{List}
+use lib.ListN.{length}
+use lib.Dec.{leb}
+use borrow.Author.Tests.{le-leb}
+use Rattle.base.specs.Indexed.{sumTo}
+use Rattle.base.proofs.Indexed.{sum-same}
+use Rattle.base.proofs.Tests.{and-make}
+use Rattle.crc.specs.Halves.{AllBytes}
+use Rattle.format.specs.Answer.{lentWrong, headerWrong, bufferTooShort}
+use Rattle.format.specs.Judged.{good, require}
+use Rattle.format.proofs.Base.Judged.{good-inj, then-good, require-good}
+use Rattle.cylinder.specs.Cylinder.{Cylinder, trackCount, startOf, trackCountRight, cylinderLent}
+use Rattle.cylinder.specs.File.{cylinderFile}
+use Rattle.cylinder.specs.Writing.{writeCylinder}
+use Rattle.cylinder.specs.Reading.{lengthIn, judgeFile, cylinderIn, Room, roomFor, readCylinder}
+use Rattle.cylinder.proofs.Sound.{SoundFile, file-sound, sound-file}
+use Rattle.cylinder.proofs.Sizes.{Lent, cylinder-lent}
+use Rattle.cylinder.proofs.WrittenFile.{count-read, length-read, cylinder-read, file-read}
+use Rattle.cylinder.proofs.HeldCylinder.{lent-held, count-held, file-back}
+
+-- What is lent to be filled is enough for the cylinder.
+abbrev pub RoomFor : Cylinder → Room → Type 0
+RoomFor c r = (length (c .tracks) ≤ r .tracks) × (length (c .marks) ≤ r .marks) × (length (c .lengths) ≤ r .lengths)
+
+-- What is written of a cylinder that is lent within the rule is its file,
+lent-write : (c : Cylinder) (room : ℕ) → trackCountRight (trackCount c) ≡ true → cylinderLent c ≡ true → length (cylinderFile c) ≤ room → writeCylinder c room ≡ good (cylinderFile c)
+unfolding writeCylinder
+lent-write c room n e h = rw (n, e, le-leb (length (cylinderFile c)) room h)
+
+-- and nothing else is written.
+write-lent : (c : Cylinder) (room : ℕ) (f : List ℕ) → writeCylinder c room ≡ good f → (trackCountRight (trackCount c) ≡ true) × (cylinderLent c ≡ true) × (cylinderFile c ≡ f)
+unfolding writeCylinder
+write-lent c room f e =
+    let a = require-good (trackCountRight (trackCount c)) headerWrong _ f e in
+    let b = require-good (cylinderLent c) lentWrong _ f (a .1) in
+    let d = require-good (leb (length (cylinderFile c)) room) bufferTooShort _ f (b .1) in
+    (a .0, b .0, good-inj (cylinderFile c) f (d .1))
+
+-- What is read is the cylinder in a sound file.
+read-sound : (f : List ℕ) (r : Room) (c : Cylinder) → readCylinder f r ≡ good c → SoundFile f × (cylinderIn f ≡ c)
+unfolding readCylinder
+read-sound f r c e =
+    let a = then-good (judgeFile f) (λ _. require (roomFor f r) bufferTooShort (good (cylinderIn f))) c e in
+    let b = require-good (roomFor f r) bufferTooShort (good (cylinderIn f)) c (a .2) in
+    (file-sound f (a .1), good-inj (cylinderIn f) c (b .1))
+
+-- The file of a cylinder that is lent within the rule is read as that cylinder.
+file-reads : (c : Cylinder) (r : Room) → trackCountRight (trackCount c) ≡ true → cylinderLent c ≡ true → RoomFor c r → readCylinder (cylinderFile c) r ≡ good c
+unfolding readCylinder roomFor
+file-reads c r n e h =
+    let lent : Lent c = cylinder-lent c e in
+    let s : sumTo (lengthIn (cylinderFile c)) (trackCount c) ≡ startOf (c .lengths) (trackCount c) = sum-same _ _ (trackCount c) (length-read c) in
+    let t : startOf (c .lengths) (trackCount c) ≤ r .tracks = omega (arith, lent .tracks-long) in
+    let m : startOf (c .lengths) (trackCount c) ≤ r .marks = omega (arith, lent .marks-long) in
+    let room : roomFor (cylinderFile c) r ≡ true = rw (count-read c, s) (and-make (le-leb _ _ t) (and-make (le-leb _ _ m) (le-leb _ _ (h .2)))) in
+    rw (sound-file (cylinderFile c) (file-read c lent n), room) (ap good (cylinder-read c lent))
+
+-- What was written is read as the same cylinder.
+pub write-read : (c : Cylinder) (room : ℕ) (f : List ℕ) (r : Room) → writeCylinder c room ≡ good f → RoomFor c r → readCylinder f r ≡ good c
+write-read c room f r e h =
+    let w = write-lent c room f e in
+    rw (← (w .2)) (file-reads c r (w .0) (w .1) h)
+
+-- Whatever is read is a cylinder of one to ten tracks that is lent within the rule.
+pub read-lent : (f : List ℕ) (r : Room) (c : Cylinder) → readCylinder f r ≡ good c → (trackCountRight (trackCount c) ≡ true) × (cylinderLent c ≡ true)
+read-lent f r c e =
+    let a = read-sound f r c e in
+    subst (λ (z : Cylinder). (trackCountRight (trackCount z) ≡ true) × (cylinderLent z ≡ true)) (a .1) (count-held f (a .0), lent-held f (a .0))
+
+-- What is read is the cylinder whose file was read.
+read-file : (f : List ℕ) (r : Room) (c : Cylinder) → AllBytes f → readCylinder f r ≡ good c → f ≡ cylinderFile c
+read-file f r c b e = let a = read-sound f r c e in sym (file-back f (a .0) b) ∙ ap cylinderFile (a .1)
+
+-- What was read is written as the same file.
+pub read-write : (f : List ℕ) (r : Room) (c : Cylinder) (room : ℕ) → AllBytes f → readCylinder f r ≡ good c → length f ≤ room → writeCylinder c room ≡ good f
+read-write f r c room b e h =
+    let l = read-lent f r c e in
+    let q = read-file f r c b e in
+    lent-write c room (l .0) (l .1) (subst (λ (z : List ℕ). length z ≤ room) q h) ∙ ap good (sym q)
+
+-- One file and no other is read as a cylinder of one to ten tracks that is lent within the rule.
+pub one-file : (c : Cylinder) (r : Room) → trackCountRight (trackCount c) ≡ true → cylinderLent c ≡ true → RoomFor c r
+    → (readCylinder (cylinderFile c) r ≡ good c) × ((f : List ℕ) → AllBytes f → readCylinder f r ≡ good c → f ≡ cylinderFile c)
+one-file c r n e h = (file-reads c r n e h, λ f b g. read-file f r c b g)

@@ -1,0 +1,96 @@
+-- What is known of a file that reading does not refuse by itself.
+use mathlib.Core.Path.{_≡_}
+use Prim.Native.Nat.{ℕ, _+_, _≤_, _<_}
+use native.Mathlib.Omega.{arith}
+use mathlib.Core.Bool.{true}
+use mathlib.Core.List.{List}
+use lib.ListN.{length}
+use lib.Dec.{leb, eqb}
+use borrow.Author.Tests.{leb-true, le-leb, eqb-true, eq-eqb}
+use Rattle.base.specs.Indexed.{sumTo}
+use Rattle.base.proofs.Tests.{and-both}
+use Rattle.base.proofs.Indexed.{sum-next, sum-grows, all-holds}
+use Rattle.format.specs.Answer.{lentWrong, headerWrong, offsetWrong, fileLengthWrong, spareBitsSet}
+use Rattle.format.specs.Judged.{good}
+use Rattle.format.specs.Lent.{lengthRight}
+use Rattle.format.specs.Layout.{shortestTrack, longestTrack}
+use Rattle.format.proofs.Base.Judged.{require-good}
+use Rattle.cylinder.specs.Cylinder.{trackCountRight, lengthsRight}
+use Rattle.cylinder.specs.Packed.{packedSize}
+use Rattle.cylinder.specs.File.{headerLength, tableEnd, storedSize, offsetOf}
+use Rattle.cylinder.specs.Reading.{trackCountIn, zeroField, lengthIn, offsetDue, headerRight, offsetsRight, sparesClear, judgeFile}
+use Rattle.cylinder.proofs.Sizes.{track-count}
+
+-- Every test of reading holds of the file.
+pub record SoundFile (f : List ℕ) : Type 0 where
+  pub header-there : headerLength ≤ length f
+  pub header-right : headerRight f ≡ true
+  pub table-there : tableEnd (trackCountIn f) ≤ length f
+  pub lengths-right : lengthsRight (lengthIn f) (trackCountIn f) ≡ true
+  pub offsets-right : offsetsRight f ≡ true
+  pub length-due : length f ≡ offsetDue f (trackCountIn f)
+  pub spares-clear : sparesClear f ≡ true
+
+-- Of a file that is not refused each test holds,
+pub file-sound : (f : List ℕ) → judgeFile f ≡ good tt → SoundFile f
+unfolding judgeFile
+file-sound f e =
+    let a = require-good (leb headerLength (length f)) fileLengthWrong _ tt e in
+    let b = require-good (headerRight f) headerWrong _ tt (a .1) in
+    let c = require-good (leb (tableEnd (trackCountIn f)) (length f)) fileLengthWrong _ tt (b .1) in
+    let d = require-good (lengthsRight (lengthIn f) (trackCountIn f)) lentWrong _ tt (c .1) in
+    let o = require-good (offsetsRight f) offsetWrong _ tt (d .1) in
+    let l = require-good (eqb (length f) (offsetDue f (trackCountIn f))) fileLengthWrong _ tt (o .1) in
+    let s = require-good (sparesClear f) spareBitsSet _ tt (l .1) in
+    record {
+      header-there = leb-true _ _ (a .0);
+      header-right = b .0;
+      table-there = leb-true _ _ (c .0);
+      lengths-right = d .0;
+      offsets-right = o .0;
+      length-due = eqb-true _ _ (l .0);
+      spares-clear = s .0;
+    }
+
+-- and a file of which each holds is not refused.
+pub sound-file : (f : List ℕ) → SoundFile f → judgeFile f ≡ good tt
+unfolding judgeFile
+sound-file f s =
+    rw (le-leb _ _ (s .header-there), s .header-right, le-leb _ _ (s .table-there), s .lengths-right, s .offsets-right, eq-eqb _ _ (s .length-due), s .spares-clear)
+
+-- One to ten tracks are named by a right header.
+pub header-count : (f : List ℕ) → headerRight f ≡ true → (1 ≤ trackCountIn f) × (trackCountIn f ≤ 10)
+unfolding headerRight
+header-count f e = track-count (trackCountIn f) (and-both (trackCountRight (trackCountIn f)) (eqb (zeroField f) 0) e .0)
+
+-- Where all Ls are in range each is.
+pub length-most : (l : ℕ → ℕ) (n k : ℕ) → lengthsRight l n ≡ true → k < n → (shortestTrack ≤ l k) × (l k ≤ longestTrack)
+unfolding lengthsRight lengthRight
+length-most l n k e h =
+    let b = and-both (leb shortestTrack (l k)) (leb (l k) longestTrack) (all-holds (λ j. lengthRight (l j)) n k e h) in
+    (leb-true _ _ (b .0), leb-true _ _ (b .1))
+
+-- Each track is due right behind the one before it.
+pub offset-next : (n : ℕ) (l : ℕ → ℕ) (k : ℕ) → offsetOf n l (k + 1) ≡ offsetOf n l k + l k + packedSize (l k)
+unfolding offsetOf
+offset-next n l k = omega (arith, sum-next (λ j. storedSize (l j)) k)
+
+-- No track is due behind a later one.
+pub offset-grows : (n : ℕ) (l : ℕ → ℕ) (k j : ℕ) → k ≤ j → offsetOf n l k ≤ offsetOf n l j
+unfolding offsetOf
+offset-grows n l k j h = omega (arith, sum-grows (λ i. storedSize (l i)) k j h)
+
+-- The first track of a file is due right behind the table,
+pub due-first : (f : List ℕ) → offsetDue f 0 ≡ tableEnd (trackCountIn f)
+unfolding offsetDue offsetOf sumTo
+due-first f = omega arith
+
+-- each next one right behind the one before it,
+pub due-next : (f : List ℕ) (k : ℕ) → offsetDue f (k + 1) ≡ offsetDue f k + lengthIn f k + packedSize (lengthIn f k)
+unfolding offsetDue
+due-next f k = offset-next (trackCountIn f) (lengthIn f) k
+
+-- and none reaches behind where a later one is due.
+pub due-within : (f : List ℕ) (n k : ℕ) → k < n → offsetDue f k + lengthIn f k + packedSize (lengthIn f k) ≤ offsetDue f n
+unfolding offsetDue
+due-within f n k h = omega (arith, offset-next (trackCountIn f) (lengthIn f) k, offset-grows (trackCountIn f) (lengthIn f) (k + 1) n (omega arith))
