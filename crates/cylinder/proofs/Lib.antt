@@ -9,3 +9,4 @@ pub mod RoundTrip
 pub mod Tells
 pub mod Answers
 pub mod Places
+pub mod Bounds

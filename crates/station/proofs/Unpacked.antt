@@ -1,5 +1,5 @@
 -- What C takes out of the bits of a result is what the definitions give: no field is cut, and none runs into another.
-use mathlib.Core.Path.{_≡_, refl, subst}
+use mathlib.Core.Path.{_≡_, refl, sym, _∙_, subst}
 use Prim.Native.Nat.{ℕ, _+_, _*_, _/_, _%_, _≤_}
 use native.Mathlib.Omega.{arith}
 use mathlib.Core.List.{List}
@@ -17,11 +17,16 @@ use Rattle.format.specs.Find.{find}
 use Rattle.format.specs.Blocks.{Wanted, Part}
 use Rattle.format.specs.Walk.{Visited, step}
 use Rattle.format.specs.PairFind.{ofFirst, pairFind}
-use Rattle.station.specs.Packed.{packedAnswer, packedCount, packedListing, packedBounds, packedPart, packedPaired, packedVisited, packedVisit}
+use Rattle.station.specs.Packed.{packedAnswer, packedCount, packedListing, packedNumber, packedReading, packedWriting, packedBounds, packedPart, packedPaired, packedVisited, packedVisit}
 use Rattle.format.specs.BlockFault.{SecondRight}
 use Rattle.format.proofs.Faults.SecondNumber.{OutcomeRight, second-most, accept-second, list-second, find-second, pair-second, blank-second, add-second, correct-second}
 use Rattle.listing.specs.Filling.{recordsOf}
 use Rattle.listing.proofs.Listed.{listing}
+use Rattle.cylinder.specs.Cylinder.{Cylinder, trackCount}
+use Rattle.cylinder.specs.Writing.{writeCylinder, fileBytes}
+use Rattle.cylinder.specs.Reading.{Room, readCylinder, cylinderRead}
+use Rattle.cylinder.proofs.Places.{AtStart, read-start, write-start}
+use Rattle.cylinder.proofs.Bounds.{read-few, write-short}
 use Rattle.station.proofs.Places.{Row, accept-within, list-within, blank-within, add-within, correct-within}
 use Rattle.station.proofs.Fields.{Inside, Fits, find-inside, pair-inside, step-fits}
 
@@ -74,6 +79,30 @@ count-read a n l s k = let f = second-most a s in ((omega arith, omega arith, om
 pub list-read : (n : ℕ) (t m : List ℕ)
     → TellsAnswer (packedListing (list n t m)) (answerOf (list n t m)) × (countIn (packedListing (list n t m)) ≡ length (recordsOf (list n t m)))
 list-read n t m = count-read (answerOf (list n t m)) (length (recordsOf (list n t m))) (list-within n t m) (list-second n t m) (listing n t m .count-most)
+
+-- Bits 32 to 63 of a result of the calls on a cylinder's file.
+abbrev pub givenIn : ℕ → ℕ
+givenIn r = r / 0x100000000
+
+-- A small number below them.
+number-below : (b n : ℕ) → b ≤ 24 → let r = b + n * 0x100000000 in (numberIn r ≡ b) × (faultIn r ≡ 0) × (placeIn r ≡ 0) × (givenIn r ≡ n)
+number-below b n h = (omega arith, omega arith, omega arith, omega arith)
+
+given-read : (a : Answer) (n : ℕ) → AtStart a → n ≤ 0xFFFFFFFF → TellsAnswer (packedNumber a n) a × (givenIn (packedNumber a n) ≡ n)
+unfolding packedNumber packedAnswer
+given-read a n s k =
+    let m : n % 0x100000000 ≡ n = omega arith in
+    let e : a .number + a .fault % 4 * 256 + a .place % 65536 * 65536 ≡ a .number = omega (arith, s .1, s .2) in
+    let b = number-below (a .number) n (s .0) in
+    rw (m, e) ((b .0, b .1 ∙ sym (s .1), b .2 ∙ sym (s .2)), b .3)
+
+-- The answer of reading a cylinder's file, and the number of its tracks.
+pub cylinder-read-read : (f : List ℕ) (r : Room) → let j = readCylinder f r in TellsAnswer (packedReading j) (answerOf j) × (givenIn (packedReading j) ≡ trackCount (cylinderRead j))
+cylinder-read-read f r = given-read _ _ (read-start f r) (omega (arith, read-few f r))
+
+-- The answer of writing one, and its length.
+pub cylinder-write-read : (c : Cylinder) (room : ℕ) → let j = writeCylinder c room in TellsAnswer (packedWriting j) (answerOf j) × (givenIn (packedWriting j) ≡ length (fileBytes j))
+cylinder-write-read c room = given-read _ _ (write-start c room) (omega (arith, write-short c room))
 
 -- The bits of Blank's result tell its answer.
 pub blank-read : (l k : ℕ) (own : Address) (flag : ℕ) (partner : Address) (s : ℕ) (key body : List ℕ) → let a = answerOf (blank l k own flag partner s key body) in TellsAnswer (packedAnswer a) a

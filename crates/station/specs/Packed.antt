@@ -12,6 +12,9 @@ use Rattle.format.specs.Walk.{Visited}
 use Rattle.format.specs.Written.{After}
 use Rattle.format.specs.PairFind.{Paired, ofFirst, pairFind}
 use Rattle.listing.specs.Filling.{recordsOf}
+use Rattle.cylinder.specs.Cylinder.{Cylinder, trackCount}
+use Rattle.cylinder.specs.Writing.{fileBytes}
+use Rattle.cylinder.specs.Reading.{cylinderRead}
 
 -- An answer: bits 0 to 7 number, 8 and 9 second number, 16 to 31 place.
 unfoldable pub packedAnswer : Answer → ℕ
@@ -38,6 +41,18 @@ packedCount a n = packedAnswer a + n % 65536 * 0x100000000
 -- List: its answer and the number of sectors, 0 where it refuses.
 abbrev pub packedListing : Judged (List Listed) → ℕ
 packedListing j = packedCount (answerOf j) (length (recordsOf j))
+
+-- An answer with a number in bits 32 to 63.
+unfoldable pub packedNumber : Answer → ℕ → ℕ
+packedNumber a n = packedAnswer a + n % 0x100000000 * 0x100000000
+
+-- Reading a cylinder's file: its answer and the number of tracks, 0 where it refuses.
+abbrev pub packedReading : Judged Cylinder → ℕ
+packedReading j = packedNumber (answerOf j) (trackCount (cylinderRead j))
+
+-- Writing one: its answer and the length of the file, 0 where it refuses.
+abbrev pub packedWriting : Judged (List ℕ) → ℕ
+packedWriting j = packedNumber (answerOf j) (length (fileBytes j))
 
 -- The start of a part in bits 32 to 47 and its size in bits 48 to 63.
 unfoldable pub packedBounds : Part → ℕ

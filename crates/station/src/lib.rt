@@ -4,9 +4,10 @@ ghost use Rattle.format.specs.Answer.{asAnswer};
 ghost use Prim.Native.Nat.{_≤_};
 ghost use Rattle.reader.specs.Finding.{asVisited, asPart, judgedPart, judgedVisit};
 ghost use Rattle.reader.specs.Pairing.{asPaired};
-ghost use Rattle.station.specs.Packed.{packedAnswer, packedCount, packedBounds, packedPart, packedPaired, packedVisited, packedVisit};
+ghost use Rattle.station.specs.Packed.{packedAnswer, packedCount, packedNumber, packedBounds, packedPart, packedPaired, packedVisited, packedVisit};
 
 pub mod bit_cells;
+pub mod cylinders;
 pub mod reading;
 pub mod writing;
 
@@ -27,6 +28,15 @@ fn packed_listing(x: listing::Listing) -> u64
     let answer = packed_answer(x.answer);
     let count = (x.count % 65536) as u64;
     answer + count * 0x100000000
+}
+
+// An answer, and a number in bits 32 to 63.
+fn packed_number(a: format::Answer, n: usize) -> u64
+    ensures { λ r. ⌜ r ≡ packedNumber (asAnswer a) n ⌝ }
+{
+    let answer = packed_answer(a);
+    let number = (n % 0x100000000) as u64;
+    answer + number * 0x100000000
 }
 
 // The start of a part in bits 32 to 47 and its size in bits 48 to 63.
