@@ -45,6 +45,16 @@ pub const FULL: u8 = 15;
 pub const PAIR: u8 = 16;
 /// 17: bit cells of no legal pattern, or a mark on another value than `FF`.
 pub const BIT_CELLS: u8 = 17;
+/// 18: the number of tracks or the zero field in the header of a file.
+pub const FILE_HEADER: u8 = 18;
+/// 19: an offset in the table of a file.
+pub const FILE_OFFSET: u8 = 19;
+/// 20: a file whose header or table is cut short, or of another length than its table gives.
+pub const FILE_LENGTH: u8 = 20;
+/// 21: a spare bit behind the marks of a track in a file.
+pub const SPARE_BITS: u8 = 21;
+/// 24: a buffer or a list is too short for what would be written to it.
+pub const SHORT_BUFFER: u8 = 24;
 
 /// Second number 1: the block does not open.
 pub const OPENING: u8 = 1;
