@@ -1,9 +1,10 @@
-//! Tracks for tests, drawn from a seed: sound ones, damaged ones, ones with a spoiled block, jumbled ones, pairs, gap rules, wanted fields, and bit cells.
+//! Tracks for tests, drawn from a seed: sound ones, damaged ones, ones with a spoiled block, jumbled ones, pairs, gap rules, wanted fields, bit cells, and cylinders.
 //!
 //! Sound tracks are laid out here by hand and never by the writing calls.
 
 mod bit_cells;
 mod block;
+mod cylinder;
 mod damage;
 mod jumble;
 mod pairs;
@@ -17,6 +18,10 @@ pub use bit_cells::{
     bit_cells_of, wanted_from_cells, wanted_to_cells, WantedFromCells, WantedToCells,
 };
 pub use block::{spoil_block, spoiled, Block, Spoiled};
+pub use cylinder::{
+    cylinder_file, cylinder_of, wanted_read_cylinder, wanted_write_cylinder, Cylinder,
+    WantedReadCylinder, WantedWriteCylinder,
+};
 pub use damage::{damage, damaged, recheck};
 pub use jumble::jumbled;
 pub use pairs::{pair, Pair, Track};
