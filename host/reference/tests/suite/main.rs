@@ -3,6 +3,7 @@
 mod accept;
 mod bit_cells;
 mod common;
+mod cylinder;
 mod empty_block;
 mod empty_block_write;
 mod end_and_gap;

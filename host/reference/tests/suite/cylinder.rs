@@ -1,0 +1,621 @@
+//! Read cylinder and Write cylinder.
+
+use crate::common::*;
+use reference::generate::*;
+use reference::*;
+use std::collections::{BTreeMap, BTreeSet};
+
+/// A track and its marks.
+type Pair = (Vec<u8>, Vec<u8>);
+
+/// Numbers that Read cylinder can give.
+const READ: [u8; 7] = [0, 1, 18, 19, 20, 21, 24];
+/// Numbers that Write cylinder can give.
+const WRITE: [u8; 4] = [0, 1, 18, 24];
+
+/// Buffers full of noise.
+fn noise(tracks: usize, marks: usize, lengths: usize) -> Cylinder {
+    Cylinder {
+        tracks: vec![0xA5; tracks],
+        marks: vec![0x5A; marks],
+        lengths: vec![0xC33C; lengths],
+    }
+}
+
+/// Read cylinder into noise of these lengths, which stays behind what is read, and whole where it is refused; gives what was read.
+fn read_into(file: &[u8], [tracks, marks, lengths]: [usize; 3]) -> (Answer, Cylinder) {
+    let mut read = noise(tracks, marks, lengths);
+    let (done, count) = read_cylinder(file, &mut read.tracks, &mut read.marks, &mut read.lengths);
+    assert_eq!(count > 0, done == answer(0, 0), "{done:?}");
+    let sum = read.lengths[..count].iter().map(|&l| usize::from(l)).sum();
+    let rest = Cylinder {
+        tracks: read.tracks.split_off(sum),
+        marks: read.marks.split_off(sum),
+        lengths: read.lengths.split_off(count),
+    };
+    assert!(rest == noise(tracks - sum, marks - sum, lengths - count));
+    (done, read)
+}
+
+/// Read cylinder into buffers that hold any ten tracks.
+fn read(file: &[u8]) -> (Answer, Cylinder) {
+    read_into(file, [40_020, 40_020, 10])
+}
+
+/// Write cylinder into noise of this length, which stays behind the file, and whole where it is refused; gives the file.
+fn write_into(cylinder: &Cylinder, room: usize) -> (Answer, Vec<u8>) {
+    let mut file = vec![0xC3; room];
+    let Cylinder {
+        tracks,
+        marks,
+        lengths,
+    } = cylinder;
+    let (done, length) = write_cylinder(tracks, marks, lengths, &mut file);
+    assert_eq!(length > 0, done == answer(0, 0), "{done:?}");
+    let rest = file.split_off(length);
+    assert!(rest.iter().all(|&byte| byte == 0xC3), "{done:?}");
+    (done, file)
+}
+
+/// Write cylinder into a buffer that holds any file.
+fn write(cylinder: &Cylinder) -> (Answer, Vec<u8>) {
+    write_into(cylinder, 45_094)
+}
+
+/// Tracks of these lengths, with bytes that count up and no mark but the last.
+fn tracks_of(lengths: &[usize]) -> Vec<Pair> {
+    let track = |&length: &usize| {
+        let bytes = (0..length).map(|place| (place * 7 + length) as u8);
+        let marks = (1..=length).map(|place| u8::from(place == length));
+        (bytes.collect(), marks.collect())
+    };
+    lengths.iter().map(track).collect()
+}
+
+/// How many bytes the tracks have.
+fn sum_of(tracks: &[Pair]) -> usize {
+    tracks.iter().map(|(bytes, _)| bytes.len()).sum()
+}
+
+/// Demands that these tracks and this file are read and written as each other, with no byte more than they need.
+fn there_and_back(tracks: &[Pair], file: &[u8], note: &str) {
+    let (cylinder, sum) = (cylinder_of(tracks), sum_of(tracks));
+    let (done, written) = write_into(&cylinder, file.len());
+    assert!((done, &written[..]) == (answer(0, 0), file), "{note}");
+    let (done, back) = read_into(file, [sum, sum, tracks.len()]);
+    assert!((done, back) == (answer(0, 0), cylinder), "{note}");
+}
+
+/// Three tracks with a few marks, and the bytes of their file that were worked out by hand.
+#[test]
+fn worked_file() {
+    let (mut tracks, lengths) = (vec![], [3_815, 3_906, 4_002]);
+    let marked: [&[usize]; 3] = [&[0, 7, 8, 3_814], &[3_905], &[4, 4_001]];
+    for ((length, value), places) in lengths.into_iter().zip([0x11, 0x22, 0x33]).zip(marked) {
+        let mut marks = vec![0; length];
+        places.iter().for_each(|&place| marks[place] = 1);
+        tracks.push((vec![value; length], marks));
+    }
+    let (done, file) = write(&cylinder_of(&tracks));
+    assert_eq!((done, file.len()), (answer(0, 0), 13_212));
+    let header_and_table = [
+        0x00, 0x03, 0x00, 0x00, // three tracks
+        0x0E, 0xE7, 0x00, 0x00, 0x00, 0x16, // 3,815 bytes at 22
+        0x0F, 0x42, 0x00, 0x00, 0x10, 0xDA, // 3,906 bytes at 4,314
+        0x0F, 0xA2, 0x00, 0x00, 0x22, 0x05, // 4,002 bytes at 8,709
+    ];
+    assert_eq!(file[..22], header_and_table);
+    // Where each track starts, where its marks do, and where they end.
+    let parts = [
+        (22, 3_837, 4_314),
+        (4_314, 8_220, 8_709),
+        (8_709, 12_711, 13_212),
+    ];
+    for ((start, end, _), value) in parts.into_iter().zip([0x11, 0x22, 0x33]) {
+        assert!(file[start..end].iter().all(|&byte| byte == value));
+    }
+    let marks = [
+        (3_837, 0x81),
+        (3_838, 0x80),
+        (4_313, 0x02),
+        (8_708, 0x40),
+        (12_711, 0x08),
+        (13_211, 0x40),
+    ];
+    for (start, end) in parts.map(|(_, start, end)| (start, end)) {
+        let set = (start..end).filter(|&place| file[place] != 0);
+        let here = marks
+            .into_iter()
+            .filter(|&(place, _)| (start..end).contains(&place));
+        let set: Vec<_> = set.map(|place| (place, file[place])).collect();
+        assert_eq!(set, here.collect::<Vec<_>>());
+    }
+    there_and_back(&tracks, &file, "worked");
+    assert!(file == cylinder_file(&tracks));
+}
+
+/// The table of the longest file.
+#[test]
+fn worked_table_of_ten() {
+    let tracks = tracks_of(&[4_002; 10]);
+    let (done, file) = write(&cylinder_of(&tracks));
+    assert_eq!((done, file.len()), (answer(0, 0), 45_094));
+    assert_eq!(file[..4], [0x00, 0x0A, 0x00, 0x00]);
+    assert_eq!(file[4..10], [0x0F, 0xA2, 0x00, 0x00, 0x00, 0x40]);
+    assert_eq!(file[10..16], [0x0F, 0xA2, 0x00, 0x00, 0x11, 0xD7]);
+    assert_eq!(file[58..64], [0x0F, 0xA2, 0x00, 0x00, 0x9E, 0x8F]);
+    there_and_back(&tracks, &file, "ten");
+}
+
+/// Each number of tracks, each with the shortest, the longest and mixed lengths.
+#[test]
+fn numbers_of_tracks() {
+    for count in 1..=10 {
+        let mixed: Vec<usize> = (0..count).map(|place| 3_815 + 18 * place).collect();
+        for lengths in [vec![3_815; count], vec![4_002; count], mixed] {
+            let tracks = tracks_of(&lengths);
+            let file = cylinder_file(&tracks);
+            there_and_back(&tracks, &file, &format!("{lengths:?}"));
+        }
+    }
+}
+
+/// Every length, alone: the last mark stands in the lowest bit that is not spare.
+#[test]
+fn every_length() {
+    for length in 3_815..=4_002_usize {
+        let tracks = tracks_of(&[length]);
+        let file = cylinder_file(&tracks);
+        let spare = (8 - length % 8) % 8;
+        assert_eq!(file.len(), 10 + length + (length + spare) / 8);
+        assert_eq!(file.last(), Some(&(1 << spare)));
+        there_and_back(&tracks, &file, &format!("L {length}"));
+    }
+}
+
+/// Each remainder of L by eight leaves another number of spare bits; each of them is refused, in each track, and no mark is.
+#[test]
+fn answer_21() {
+    let mut spare_counts = BTreeSet::new();
+    for length in 3_815..3_823_usize {
+        for tracks in [tracks_of(&[length]), tracks_of(&[length, 3_906, length])] {
+            let file = cylinder_file(&tracks);
+            let first = 4 + 6 * tracks.len();
+            let last_bytes = [first + length + length.div_ceil(8) - 1, file.len() - 1];
+            for place in last_bytes {
+                for bit in 0..8 {
+                    let spare = 7 - (length - 1) % 8;
+                    spare_counts.insert(spare);
+                    let mut file = file.clone();
+                    file[place] ^= 1 << bit;
+                    let number = if bit < spare { 21 } else { 0 };
+                    assert_eq!(read(&file).0, answer(number, 0), "{length} {place} {bit}");
+                }
+            }
+        }
+    }
+    assert_eq!(spare_counts, (0..8).collect());
+}
+
+/// Under four bytes there is no header, whatever they are.
+#[test]
+fn answer_20_for_the_header() {
+    for length in 0..4 {
+        for byte in [0x00, 0x01, 0xFF] {
+            assert_eq!(read(&vec![byte; length]).0, answer(20, 0));
+        }
+        let file = cylinder_file(&tracks_of(&[3_906]));
+        assert_eq!(read(&file[..length]).0, answer(20, 0));
+    }
+}
+
+#[test]
+fn answer_18_reading() {
+    let whole = cylinder_file(&tracks_of(&[3_906]));
+    let (mut header, mut refused) = ([0; 4], 0);
+    for count in 0..=0xFFFF_u16 {
+        header[..2].copy_from_slice(&count.to_be_bytes());
+        // The header alone: a number in rule lacks its table.
+        let number = if (1..=10).contains(&count) { 20 } else { 18 };
+        assert_eq!(read(&header).0, answer(number, 0), "{count}");
+        refused += usize::from(number == 18);
+    }
+    assert_eq!(refused, 65_526);
+    for field in (1..=0xFFFF_u16).step_by(7).chain([0x0100, 0x8000, 0x0080]) {
+        let mut file = whole.clone();
+        file[2..4].copy_from_slice(&field.to_be_bytes());
+        assert_eq!(read(&file).0, answer(18, 0), "{field}");
+        assert_eq!(read(&file[..4]).0, answer(18, 0), "{field}");
+    }
+    for count in [0, 11, 12] {
+        let file = cylinder_file(&tracks_of(&vec![3_906; count]));
+        assert_eq!(read_into(&file, [50_000, 50_000, 12]).0, answer(18, 0));
+    }
+}
+
+/// A table cut short at every place, and a file of nothing but its table.
+#[test]
+fn answer_20_for_the_table() {
+    for count in 1..=10 {
+        let file = cylinder_file(&tracks_of(&vec![3_906; count]));
+        for length in 4..=4 + 6 * count {
+            assert_eq!(read(&file[..length]).0, answer(20, 0), "{count} {length}");
+        }
+        // Faults of the table show once it is whole.
+        let mut wrong = file.clone();
+        wrong[4] = 0;
+        wrong[9] ^= 1;
+        let end = 4 + 6 * count;
+        assert_eq!(read(&wrong[..end - 1]).0, answer(20, 0));
+        assert_eq!(read(&wrong[..end]).0, answer(1, 0));
+        wrong[4] = file[4];
+        assert_eq!(read(&wrong[..end - 1]).0, answer(20, 0));
+        assert_eq!(read(&wrong[..end]).0, answer(19, 0));
+    }
+}
+
+/// Lengths next to the range, in each entry, in files that are laid out for them.
+#[test]
+fn answer_1_reading() {
+    for count in [1, 2, 10] {
+        for entry in 0..count {
+            for (length, number) in [(3_814, 1), (3_815, 0), (4_002, 0), (4_003, 1)] {
+                let mut lengths = vec![3_906; count];
+                lengths[entry] = length;
+                let mut file = cylinder_file(&tracks_of(&lengths));
+                assert_eq!(read(&file).0, answer(number, 0), "{entry} {length}");
+                // All lengths are judged before any offset.
+                file[9] ^= 1;
+                let number = if number == 0 { 19 } else { 1 };
+                assert_eq!(read(&file).0, answer(number, 0), "{entry} {length}");
+            }
+        }
+    }
+    for length in [0, 1, 0x420F, 0x8F42, 0xFFFF_u16] {
+        let mut file = cylinder_file(&tracks_of(&[3_906]));
+        file[4..6].copy_from_slice(&length.to_be_bytes());
+        assert_eq!(read(&file).0, answer(1, 0), "{length}");
+    }
+}
+
+/// Every bit of every offset.
+#[test]
+fn answer_19() {
+    for count in [1, 3, 10] {
+        let file = cylinder_file(&tracks_of(&vec![3_906; count]));
+        for (entry, bit) in (0..count).flat_map(|entry| (0..32).map(move |bit| (entry, bit))) {
+            let mut file = file.clone();
+            file[6 + 6 * entry + bit / 8] ^= 1 << (bit % 8);
+            assert_eq!(read(&file).0, answer(19, 0), "{entry} {bit}");
+        }
+    }
+    // A length in range that the offsets behind it do not follow; of the last track only the file's length tells.
+    let mut file = cylinder_file(&tracks_of(&[3_906, 3_906]));
+    file[5] += 1;
+    assert_eq!(read(&file).0, answer(19, 0));
+    file[5] -= 1;
+    file[11] += 1;
+    assert_eq!(read(&file).0, answer(20, 0));
+    // Lengths of another sum, with offsets that follow: 3,906 and 3,907 take 4,395 and 4,396 bytes.
+    file[5] -= 1;
+    file[15] -= 1;
+    assert_eq!(read(&file).0, answer(0, 0));
+}
+
+/// A file with a byte more, a byte less, another file behind it, and all but its first track.
+#[test]
+fn answer_20_for_the_file() {
+    for count in [1, 2, 10] {
+        let whole = cylinder_file(&tracks_of(&vec![3_906; count]));
+        let lengths = [whole.len() - 1, whole.len() - 489, 4 + 6 * count + 1];
+        for length in lengths {
+            assert_eq!(read(&whole[..length]).0, answer(20, 0), "{count} {length}");
+        }
+        for more in [1, 2, 489, 3_906, whole.len()] {
+            let mut file = whole.clone();
+            file.extend(vec![0; more]);
+            assert_eq!(read(&file).0, answer(20, 0), "{count} {more}");
+        }
+    }
+}
+
+/// What is lent for writing may be longer than needed, and not shorter.
+#[test]
+fn answer_24_reading() {
+    for lengths in [&[3_815][..], &[3_815, 4_002], &[3_999; 10]] {
+        let tracks = tracks_of(lengths);
+        let (file, sum, count) = (cylinder_file(&tracks), sum_of(&tracks), lengths.len());
+        let number = |rooms| read_into(&file, rooms).0;
+        for rooms in [
+            [sum - 1, sum, count],
+            [sum, sum - 1, count],
+            [sum, sum, count - 1],
+            [0, sum, count],
+            [sum, 0, count],
+            [sum, sum, 0],
+            [0, 0, 0],
+            [sum - 1, sum + 1, count + 1],
+        ] {
+            assert_eq!(number(rooms), answer(24, 0), "{rooms:?}");
+        }
+        for rooms in [
+            [sum, sum, count],
+            [sum + 1, sum, count],
+            [sum, sum + 1, count],
+            [sum, sum, count + 1],
+            [sum + 4_002, sum + 3_906, 300],
+        ] {
+            assert_eq!(number(rooms), answer(0, 0), "{rooms:?}");
+            let back = read_into(&file, rooms).1;
+            assert!(back == cylinder_of(&tracks), "{rooms:?}");
+        }
+    }
+}
+
+/// A file and the buffers that are lent for it.
+type Reading = (Vec<u8>, [usize; 3]);
+
+/// The number that a fault has, and what makes it.
+type Fault = (u8, fn(&mut Reading));
+
+/// The faults of a file of two tracks, in the order in which they are told.
+const FAULTS: [Fault; 8] = [
+    (20, |(file, _)| file.truncate(3)),
+    (18, |(file, _)| file[1] = 11),
+    (20, |(file, _)| file.truncate(15)),
+    (1, |(file, _)| file[4] = 0),
+    (19, |(file, _)| file[9] ^= 1),
+    (20, |(file, _)| file.truncate(file.len() - 1)),
+    (21, |(file, _)| file[16 + 4_292 - 1] |= 1),
+    (24, |(_, rooms)| rooms[0] -= 1),
+];
+
+/// Of two faults that stand together the first in the order is told, and so of all from one on.
+#[test]
+fn order_of_the_answers_reading() {
+    let tracks = tracks_of(&[3_815, 3_906]);
+    let sound = (cylinder_file(&tracks), [7_721, 7_721, 2]);
+    assert_eq!(read_into(&sound.0, sound.1).0, answer(0, 0));
+    for (index, (number, fault)) in FAULTS.into_iter().enumerate() {
+        let mut one = sound.clone();
+        fault(&mut one);
+        assert_eq!(read_into(&one.0, one.1).0, answer(number, 0), "{index}");
+        for (later, (_, other)) in FAULTS.iter().enumerate().skip(index + 1) {
+            let mut two = sound.clone();
+            other(&mut two);
+            fault(&mut two);
+            let done = read_into(&two.0, two.1).0;
+            assert_eq!(done, answer(number, 0), "{index} and {later}");
+        }
+        let mut all = sound.clone();
+        for (_, fault) in FAULTS[index..].iter().rev() {
+            fault(&mut all);
+        }
+        assert_eq!(read_into(&all.0, all.1).0, answer(number, 0), "{index}");
+    }
+}
+
+#[test]
+fn answer_18_writing() {
+    for count in [0, 11, 12, 100, 256, 257, 266, 65_536, 65_537] {
+        let mut cylinder = cylinder_of(&tracks_of(&[3_906]));
+        cylinder.lengths.resize(count, 3_906);
+        assert_eq!(write(&cylinder).0, answer(18, 0), "{count}");
+        assert_eq!(write_into(&cylinder, 0).0, answer(18, 0), "{count}");
+    }
+    for count in [0, 11] {
+        // Slices of the right sum, and a length and a mark out of rule.
+        let mut cylinder = cylinder_of(&tracks_of(&vec![3_906; count]));
+        assert_eq!(write_into(&cylinder, 60_000).0, answer(18, 0));
+        cylinder.marks.push(2);
+        cylinder.lengths.iter_mut().for_each(|length| *length = 0);
+        assert_eq!(write_into(&cylinder, 60_000).0, answer(18, 0));
+    }
+}
+
+#[test]
+fn answer_1_writing() {
+    for count in [1, 2, 10] {
+        for entry in 0..count {
+            for (length, number) in [(3_814, 1), (3_815, 0), (4_002, 0), (4_003, 1)] {
+                let mut lengths = vec![3_906; count];
+                lengths[entry] = length;
+                let cylinder = cylinder_of(&tracks_of(&lengths));
+                assert_eq!(write(&cylinder).0, answer(number, 0), "{entry} {length}");
+                // Room is judged last.
+                let number = if number == 0 { 24 } else { 1 };
+                assert_eq!(write_into(&cylinder, 0).0, answer(number, 0));
+            }
+        }
+        let right = cylinder_of(&tracks_of(&vec![3_906; count]));
+        let sum = 3_906 * count;
+        for (tracks, marks) in [
+            (sum - 1, sum),
+            (sum + 1, sum),
+            (sum, sum - 1),
+            (sum, sum + 1),
+            (sum - 1, sum - 1),
+            (sum + 1, sum + 1),
+            (0, sum),
+            (sum, 0),
+        ] {
+            let mut cylinder = right.clone();
+            cylinder.tracks.resize(tracks, 0);
+            cylinder.marks.resize(marks, 0);
+            assert_eq!(write(&cylinder).0, answer(1, 0), "{tracks} {marks}");
+            assert_eq!(write_into(&cylinder, 0).0, answer(1, 0));
+        }
+    }
+    // Two lengths out of range, whose sum is that of two in range.
+    let mut cylinder = cylinder_of(&tracks_of(&[3_906, 3_906]));
+    for (lengths, number) in [
+        ([3_815, 3_997], 0),
+        ([3_810, 4_002], 1),
+        ([3_809, 4_003], 1),
+    ] {
+        cylinder.lengths = lengths.to_vec();
+        assert_eq!(write(&cylinder).0, answer(number, 0), "{lengths:?}");
+    }
+}
+
+#[test]
+fn marks_out_of_rule() {
+    for count in [1, 10] {
+        let right = cylinder_of(&tracks_of(&vec![3_906; count]));
+        let sum = 3_906 * count;
+        for place in [0, 1, 3_905, sum - 3_906, sum - 1] {
+            for mark in 2..=255 {
+                let mut cylinder = right.clone();
+                cylinder.marks[place] = mark;
+                assert_eq!(write(&cylinder).0, answer(1, 0), "{place} {mark}");
+            }
+        }
+    }
+}
+
+/// A buffer of exactly the file's length, one byte less, and longer ones.
+#[test]
+fn answer_24_writing() {
+    for lengths in [&[3_815][..], &[3_816], &[3_815, 4_002], &[3_999; 10]] {
+        let tracks = tracks_of(lengths);
+        let (cylinder, file) = (cylinder_of(&tracks), cylinder_file(&tracks));
+        for room in [0, 4, sum_of(&tracks), file.len() - 1] {
+            assert_eq!(write_into(&cylinder, room).0, answer(24, 0), "{room}");
+        }
+        for room in [file.len(), file.len() + 1, 60_000] {
+            let (done, written) = write_into(&cylinder, room);
+            assert_eq!((done, written == file), (answer(0, 0), true), "{room}");
+        }
+    }
+}
+
+/// How often each number was met; each of the call is met often, and no other.
+fn check_mix(name: &str, met: &BTreeMap<u8, usize>, numbers: &[u8], least: usize) {
+    println!("{name}: {met:?}");
+    assert_eq!(met.keys().copied().collect::<Vec<_>>(), numbers);
+    assert!(met.values().all(|&times| times >= least), "{met:?}");
+}
+
+/// What is read from a wanted file writes back to it.
+#[test]
+fn wanted_readings() {
+    let (mut met, mut counts) = (BTreeMap::new(), BTreeSet::new());
+    for seed in 0..4_000 {
+        let w = wanted_read_cylinder(seed);
+        let rooms = [w.tracks_length, w.marks_length, w.lengths_count];
+        let (done, back) = read_into(&w.file, rooms);
+        *met.entry(done.number).or_default() += 1;
+        assert_eq!(done, answer(done.number, 0), "seed {seed}");
+        if done.number == 0 {
+            counts.insert(back.lengths.len());
+            let (done, file) = write(&back);
+            assert!(done == answer(0, 0) && file == w.file, "seed {seed}");
+        }
+    }
+    check_mix("read", &met, &READ, 80);
+    assert_eq!(counts, (1..=10).collect());
+}
+
+/// What is written of wanted tracks reads back.
+#[test]
+fn wanted_writings() {
+    let (mut met, mut counts) = (BTreeMap::new(), BTreeSet::new());
+    for seed in 0..4_000 {
+        let w = wanted_write_cylinder(seed);
+        let (done, file) = write_into(&w.cylinder, w.file_length);
+        *met.entry(done.number).or_default() += 1;
+        assert_eq!(done, answer(done.number, 0), "seed {seed}");
+        if done.number == 0 {
+            counts.insert(w.cylinder.lengths.len());
+            let (done, back) = read(&file);
+            assert!(done == answer(0, 0) && back == w.cylinder, "seed {seed}");
+        }
+    }
+    check_mix("write", &met, &WRITE, 200);
+    assert_eq!(counts, (1..=10).collect());
+}
+
+/// Why a file is refused, as far as the header and the lengths of the file and of what is lent show.
+fn kind_of_reading(w: &WantedReadCylinder, number: u8) -> &'static str {
+    let count = w.file.get(1).copied().map_or(0, usize::from);
+    let zero_field = w.file.get(2..4) == Some(&[0, 0]);
+    match number {
+        18 if !zero_field => "18 for the zero field",
+        18 => "18 for the number of tracks",
+        20 if w.file.len() < 4 => "20 for the header",
+        20 if w.file.len() < 4 + 6 * count => "20 for the table",
+        20 => "20 for the file",
+        24 if w.lengths_count < count => "24 for the list",
+        24 if w.tracks_length < w.marks_length => "24 for the tracks",
+        24 if w.marks_length < w.tracks_length => "24 for the marks",
+        24 => "24 for both",
+        0 if w.tracks_length > w.marks_length => "more tracks",
+        0 if w.marks_length > w.tracks_length => "more marks",
+        0 if w.lengths_count > count => "a longer list",
+        _ => "other",
+    }
+}
+
+/// Why tracks are refused, as far as their lengths show.
+fn kind_of_writing(w: &WantedWriteCylinder, number: u8) -> &'static str {
+    let Cylinder {
+        tracks,
+        marks,
+        lengths,
+    } = &w.cylinder;
+    let sum: usize = lengths.iter().map(|&length| usize::from(length)).sum();
+    let in_range = |length| (3_815..=4_002).contains(length);
+    match number {
+        18 if lengths.is_empty() => "18 for none",
+        18 if lengths.len() == 11 => "18 for eleven",
+        18 => "18 for many",
+        1 if !lengths.iter().all(in_range) => "1 for a length",
+        1 if (tracks.len(), marks.len()) == (sum, sum) => "1 for a mark",
+        1 if tracks.len() == sum => "1 for the marks",
+        1 if marks.len() == sum => "1 for the tracks",
+        1 => "1 for both",
+        24 if w.file_length == 0 => "24 for nothing",
+        24 => "24 for less",
+        _ => "other",
+    }
+}
+
+/// Each answer by each of its reasons is among the wanted ones.
+#[test]
+fn wanted_reasons_are_varied() {
+    let mut met = BTreeMap::<_, usize>::new();
+    for seed in 0..4_000 {
+        let w = wanted_read_cylinder(seed);
+        let rooms = [w.tracks_length, w.marks_length, w.lengths_count];
+        let number = read_into(&w.file, rooms).0.number;
+        *met.entry(("read", kind_of_reading(&w, number)))
+            .or_default() += 1;
+        let w = wanted_write_cylinder(seed);
+        let number = write_into(&w.cylinder, w.file_length).0.number;
+        *met.entry(("write", kind_of_writing(&w, number)))
+            .or_default() += 1;
+    }
+    println!("{met:?}");
+    assert_eq!(met.len(), 13 + 11, "{met:?}");
+    assert!(met.values().all(|&times| times >= 5), "{met:?}");
+}
+
+/// Accepted tracks are accepted as before when they were in a file.
+#[test]
+fn sound_tracks_there_and_back() {
+    for seed in 0..100 {
+        let tracks: Vec<Pair> = (0..seed % 10 + 1)
+            .map(|head| sound(10 * seed + head))
+            .collect();
+        let file = cylinder_file(&tracks);
+        there_and_back(&tracks, &file, &format!("seed {seed}"));
+        let mut back = read(&file).1;
+        for length in back.lengths {
+            let rest = back.tracks.split_off(length.into());
+            let track = std::mem::replace(&mut back.tracks, rest);
+            let rest = back.marks.split_off(length.into());
+            let marks = std::mem::replace(&mut back.marks, rest);
+            assert_eq!(accept(&track, &marks), answer(0, 0), "seed {seed}");
+        }
+    }
+}
