@@ -6,6 +6,8 @@
  * The drive's own form of a track is 2L cell bytes. A track byte is sixteen bit cells: for every bit, B8 (the top bit)
  * first, a clock and then its data; eight bit cells make a cell byte, the first of them its top bit.
  * An unmarked byte has all eight clocks; a marked one is FF without its first five, which makes 55 7F.
+ * A cylinder's file holds one to ten tracks with their marks. In memory the tracks stand one after the other in one
+ * slice, all their marks likewise in another, and their Ls in a list; below, the sum is that of these Ls.
  * Every slice is a pointer and then a length. Nothing is kept after a call returns.
  * Slices lent for writing overlap no other slice of the same call. A pointer is never NULL, also where its length is 0.
  */
@@ -26,10 +28,14 @@ extern "C" {
 /* No track holds more sectors; List asks for so many rows. */
 #define ISO3561_MOST_SECTORS 67
 
+/* No cylinder's file holds more tracks or more bytes: ten tracks of 4,002 bytes. */
+#define ISO3561_MOST_TRACKS 10
+#define ISO3561_LONGEST_FILE 45094
+
 /* The number of an answer. */
 enum iso3561_number {
     ISO3561_DONE = 0,                /* done */
-    ISO3561_LENT_WRONG = 1,          /* a lent length or a mark is out of rule, or List's rows are too few */
+    ISO3561_LENT_WRONG = 1,          /* a lent length, a mark or an L is out of rule, or List's rows are too few */
     ISO3561_HOME_MISSING = 2,        /* home opens nowhere in its window */
     ISO3561_HOME_CHECK_WRONG = 3,    /* home's check or closing byte is wrong */
     ISO3561_HOME_FIELDS_WRONG = 4,   /* home's flag, cylinder or head is out of rule */
@@ -45,7 +51,12 @@ enum iso3561_number {
     ISO3561_WANTED_WRONG = 14,       /* a wanted field is out of rule; the gap rule, its a and its b too */
     ISO3561_ROOM_MISSING = 15,       /* fewer than 13 bytes would be left behind the last block */
     ISO3561_PAIR_WRONG = 16,         /* the two tracks do not agree, or the first is flagged 11 */
-    ISO3561_PATTERN_WRONG = 17       /* a byte's bit cells are no legal pattern, or a marked byte is not FF */
+    ISO3561_PATTERN_WRONG = 17,      /* a byte's bit cells are no legal pattern, or a marked byte is not FF */
+    ISO3561_HEADER_WRONG = 18,       /* a file's number of tracks is not 1 to 10, or its zero field is not zero */
+    ISO3561_OFFSET_WRONG = 19,       /* an offset in a file's table is not where that track has to start */
+    ISO3561_FILE_LENGTH_WRONG = 20,  /* a file's header or table is cut short, or it is not as long as its table says */
+    ISO3561_SPARE_BITS_SET = 21,     /* a spare bit behind the marks of a file's track is not zero */
+    ISO3561_BUFFER_TOO_SHORT = 24    /* a lent slice or list is too short for what would be written */
 };
 
 /* ISO3561_SPAN_TOO_SHORT: 21 bytes must follow the data block before the next opening, 13 before index. A data
@@ -121,6 +132,16 @@ static inline size_t iso3561_part_length(uint64_t result) {
 /* List: how many sectors the track has, which is how many rows were filled; 0 where it refuses. */
 static inline size_t iso3561_sector_count(uint64_t result) {
     return (size_t)(result >> 32 & 0xFFFF);
+}
+
+/* Read cylinder: how many tracks the file holds, which is how many Ls were written; 0 where it refuses. */
+static inline size_t iso3561_track_count(uint64_t result) {
+    return (size_t)(result >> 32 & 0xFFFFFFFF);
+}
+
+/* Write cylinder: how many bytes the file has; 0 where it refuses. */
+static inline size_t iso3561_file_length(uint64_t result) {
+    return (size_t)(result >> 32 & 0xFFFFFFFF);
 }
 
 /* ---- The result of iso3561_walk ---- */
@@ -255,6 +276,39 @@ uint64_t iso3561_from_cells(const uint8_t *bit_cells, size_t bit_cells_length,
 uint64_t iso3561_to_cells(const uint8_t *track, size_t track_length,
                           const uint8_t *marks, size_t marks_length,
                           uint8_t *bit_cells, size_t bit_cells_length);
+
+/* ==== One file for a cylinder: a refusal writes nothing, answer 0 writes the start of what is lent for writing ==== */
+
+/* The file, its numbers with the most significant byte first:
+ *   2 bytes, how many tracks it holds, 1 to 10; 2 zero bytes;
+ *   for each track 6 bytes, its L in 2 and its offset from the file's start in 4;
+ *   then each track, without holes: its L bytes, and (L + 7) / 8 bytes with its marks, eight to a byte.
+ * The first mark of eight is the top bit; the spare bits of a track's last byte of marks are zero.
+ * The tracks may be sound or damaged. Place and second number of both results are 0. */
+
+/* Read cylinder: the tracks of a file. The file is read; the tracks, their marks and their Ls are written.
+ * Answer 0 writes the first bytes of tracks and marks, as many as the sum, each mark 0 or 1, and the first Ls of the
+ * list, as many as iso3561_track_count tells; all behind these stays as it is.
+ * Answers, in this order: 20, where the file has fewer than four bytes. 18, where its number of tracks is not 1 to 10
+ * or a zero byte is not zero. 20, where the table is cut short. 1, where an L is out of range. 19, where an offset is
+ * not the one that the Ls before it make. 20, where the file is longer or shorter than its Ls make it. 21, where a
+ * spare bit is set. 24, where tracks or marks are shorter than the sum, or the list shorter than the number of tracks;
+ * never with ISO3561_MOST_TRACKS * ISO3561_LONGEST bytes each and ISO3561_MOST_TRACKS Ls. */
+uint64_t iso3561_cylinder_read(const uint8_t *file, size_t file_length,
+                               uint8_t *tracks, size_t tracks_length,
+                               uint8_t *marks, size_t marks_length,
+                               uint16_t *lengths, size_t lengths_count);
+
+/* Write cylinder: the one file of these tracks. Tracks, marks and Ls are read; the file is written.
+ * Answer 0 writes the first bytes of the file's slice, as many as iso3561_file_length tells; all behind these stays
+ * as it is.
+ * Answers, in this order: 18, where the list has not 1 to 10 Ls. 1, where an L is out of range, tracks or marks are
+ * longer or shorter than the sum, or a mark is not 0 or 1. 24, where the file's slice is too short; never with
+ * ISO3561_LONGEST_FILE bytes. */
+uint64_t iso3561_cylinder_write(const uint8_t *tracks, size_t tracks_length,
+                                const uint8_t *marks, size_t marks_length,
+                                const uint16_t *lengths, size_t lengths_count,
+                                uint8_t *file, size_t file_length);
 
 #ifdef __cplusplus
 }
