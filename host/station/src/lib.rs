@@ -2,6 +2,7 @@
 //!
 //! A track is two byte slices of one length, 3,815 to 4,002: the bytes and the marks.
 //! The drive's bit cells are one byte slice of twice that length.
+//! The tracks of a cylinder stand one after the other in such a pair, with a list of their lengths, or in one file.
 //!
 //! ```
 //! use station::{accept, blank, find, Address, NewTrack, Wanted};
@@ -18,12 +19,14 @@
 //! ```
 
 mod bit_cells;
+mod cylinder;
 mod listing;
 mod reading;
 mod result;
 mod writing;
 
 pub use bit_cells::{from_cells, to_cells};
+pub use cylinder::{read_cylinder, write_cylinder, LONGEST_FILE, MOST_TRACKS};
 pub use listing::{list, list_into, Sector, MOST_SECTORS};
 pub use reading::{
     accept, candidates, find, pair_find, walk_from, Candidates, Lent, Wanted, Which,

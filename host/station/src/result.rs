@@ -171,6 +171,15 @@ impl Word {
         Err(answer)
     }
 
+    /// How many tracks Read cylinder read, or how many bytes Write cylinder wrote, or their refusal, which has no place.
+    pub fn count(self) -> Result<usize, Answer> {
+        let count = self.bits(32, 64) as usize;
+        debug_assert_eq!(self.bits(8, 32), 0, "unused bits of {:016x}", self.0);
+        let answer = self.answer();
+        debug_assert_eq!(answer.is_done(), count > 0, "count of {:016x}", self.0);
+        answer.done().map(|()| count)
+    }
+
     /// What Walk gives, which has its own layout: the flag stands where other calls have the fault.
     pub fn candidate(self) -> Result<Candidate, Answer> {
         let number = self.number();
@@ -243,7 +252,7 @@ mod tests {
     #[cfg(debug_assertions)]
     #[test]
     fn words_out_of_rule() {
-        let numbers = (0..=17).filter(|number| ![10, 11].contains(number));
+        let numbers = (0..=24).filter(|number| ![10, 11].contains(number));
         let with_fault = numbers.flat_map(|number| [0x100, 0x200, 0x300].map(|f| f | number));
         let unused = [10, 11, 12, 13, 14].map(|bit| 1 << bit | 0x20A);
         for word in with_fault.chain([10, 11]).chain(unused) {
@@ -253,6 +262,11 @@ mod tests {
         // Of List: a place without a refusal, sectors with one, bit 15, and the bits behind the number of sectors.
         for word in [0x1_0001_0000, 0x1_0000_0001, 0x1_0000_8000, 1 << 48] {
             let taken = std::panic::catch_unwind(|| Word(word).sector_count());
+            assert!(taken.is_err(), "{word:016x}");
+        }
+        // Of a cylinder's file: a place with or without a refusal, a count with one, none without, and bit 15.
+        for word in [0x1_0001_0000, 0x1_0012, 0x1_0000_0012, 0, 0x1_0000_8000] {
+            let taken = std::panic::catch_unwind(|| Word(word).count());
             assert!(taken.is_err(), "{word:016x}");
         }
     }
@@ -267,6 +281,21 @@ mod tests {
             place: 0x7A,
         };
         assert_eq!(Word(0x007A_020B).sector_count(), Err(refused));
+    }
+
+    /// What the calls for a cylinder's file give from its own bits, and their refusals.
+    #[test]
+    fn counts_of_a_result() {
+        assert_eq!(Word(0x0000_000A_0000_0000).count(), Ok(10));
+        assert_eq!(Word(0x0000_B026_0000_0000).count(), Ok(45_094));
+        assert_eq!(Word(0xFFFF_FFFF_0000_0000).count(), Ok(0xFFFF_FFFF));
+        for number in [1, 18, 19, 20, 21, 24] {
+            let refused = Answer {
+                number,
+                ..Answer::DONE
+            };
+            assert_eq!(Word(number.into()).count(), Err(refused));
+        }
     }
 
     /// Every field of a step from its own bits.
