@@ -65,7 +65,7 @@ try: examples
 
 # As many seeds as one likes: make soak SOAK=1000000 SEED=5000000
 soak: lib
-	cd host && ISO3561_SOAK=$(SOAK) ISO3561_SEED=$(SEED) $(CARGO) test -p station -p crc --test reading --test listing --test writing --test rules --test gaps --test bursts --test bit_cells --test check
+	cd host && ISO3561_SOAK=$(SOAK) ISO3561_SEED=$(SEED) $(CARGO) test -p station -p crc --test reading --test listing --test writing --test rules --test gaps --test bursts --test bit_cells --test cylinder --test check
 
 # Times beside the reference.
 bench: lib

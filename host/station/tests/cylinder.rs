@@ -1,0 +1,483 @@
+//! Read cylinder and Write cylinder against the reference: answers, what they give, and everything lent for writing.
+
+mod common;
+
+use common::{answer, expected, new_sector, new_track, noise, reads_back, Tally, Track};
+use reference::generate::{
+    cylinder_file, cylinder_of, sound, wanted_add, wanted_blank, wanted_read_cylinder,
+    wanted_write_cylinder, Cylinder, Rng, WantedAdd, WantedBlank,
+};
+use station::{Answer, LONGEST_FILE, MOST_TRACKS};
+use std::collections::{BTreeMap, BTreeSet};
+use std::fmt::Debug;
+
+/// Numbers that Read cylinder can give.
+const READ: [u8; 7] = [0, 1, 18, 19, 20, 21, 24];
+/// Numbers that Write cylinder can give.
+const WRITE: [u8; 4] = [0, 1, 18, 24];
+/// As many bytes as the tracks of any file have.
+const MOST_BYTES: usize = MOST_TRACKS * 4_002;
+
+/// Buffers full of noise, of these lengths.
+fn noisy(seed: u64, [tracks, marks, lengths]: [usize; 3]) -> Cylinder {
+    let mut rng = Rng::new(seed ^ 0xC711_0000);
+    Cylinder {
+        tracks: rng.bytes(tracks),
+        marks: rng.bytes(marks),
+        lengths: (0..lengths).map(|_| rng.bits() as u16).collect(),
+    }
+}
+
+/// A buffer full of noise.
+fn noisy_file(seed: u64, length: usize) -> Vec<u8> {
+    noise(seed ^ 0xC711_F11E, length, 0).0
+}
+
+/// Demands equal lists; says where the first difference is.
+fn same<T: PartialEq + Debug>(name: &str, ours: &[T], theirs: &[T], note: &str) {
+    if ours != theirs {
+        assert_eq!(ours.len(), theirs.len(), "{name}, {note}");
+        let place = ours.iter().zip(theirs).position(|(a, b)| a != b).unwrap();
+        let (a, b) = (&ours[place], &theirs[place]);
+        panic!("{name} at {place}: {a:?} and {b:?}, {note}");
+    }
+}
+
+/// Demands equal tracks, marks and lengths.
+fn same_cylinder(ours: &Cylinder, theirs: &Cylinder, note: &str) {
+    same("tracks", &ours.tracks, &theirs.tracks, note);
+    same("marks", &ours.marks, &theirs.marks, note);
+    same("lengths", &ours.lengths, &theirs.lengths, note);
+}
+
+/// The sum of the lengths.
+fn sum_of(lengths: &[u16]) -> usize {
+    lengths.iter().map(|&length| usize::from(length)).sum()
+}
+
+/// Demands the same behind what was read: so many bytes and marks, and so many lengths.
+fn same_rest(ours: &Cylinder, before: &Cylinder, sum: usize, count: usize, note: &str) {
+    same(
+        "behind the tracks",
+        &ours.tracks[sum..],
+        &before.tracks[sum..],
+        note,
+    );
+    same(
+        "behind the marks",
+        &ours.marks[sum..],
+        &before.marks[sum..],
+        note,
+    );
+    same(
+        "behind the lengths",
+        &ours.lengths[count..],
+        &before.lengths[count..],
+        note,
+    );
+}
+
+/// What the reference answers and gives, in the wrapper's type.
+fn given((answer, count): (reference::Answer, usize)) -> Result<usize, Answer> {
+    match expected(answer) {
+        Answer::DONE => Ok(count),
+        refusal => {
+            assert_eq!(count, 0);
+            Err(refusal)
+        }
+    }
+}
+
+/// The answer of a call.
+fn answer_of<T>(done: &Result<T, Answer>) -> Answer {
+    done.as_ref().err().copied().unwrap_or(Answer::DONE)
+}
+
+/// Read cylinder by both, into buffers of equal noise, which stays behind what is read, and whole where it is refused; gives what was read.
+fn read_by_both(file: &[u8], before: &Cylinder, note: &str) -> Result<Cylinder, Answer> {
+    let (mut ours, mut theirs) = (before.clone(), before.clone());
+    let Cylinder {
+        tracks,
+        marks,
+        lengths,
+    } = &mut ours;
+    let done = station::read_cylinder(file, tracks, marks, lengths);
+    let Cylinder {
+        tracks,
+        marks,
+        lengths,
+    } = &mut theirs;
+    let expected = reference::read_cylinder(file, tracks, marks, lengths);
+    assert_eq!(done, given(expected), "{note}");
+    same_cylinder(&ours, &theirs, note);
+    let count = done.unwrap_or(0);
+    let sum = sum_of(&ours.lengths[..count]);
+    same_rest(&ours, before, sum, count, note);
+    ours.tracks.truncate(sum);
+    ours.marks.truncate(sum);
+    ours.lengths.truncate(count);
+    done.map(|_| ours)
+}
+
+/// Write cylinder by both, into buffers of equal noise, which stays behind the file, and whole where it is refused; gives the file.
+fn write_by_both(cylinder: &Cylinder, before: &[u8], note: &str) -> Result<Vec<u8>, Answer> {
+    let (mut ours, mut theirs) = (before.to_vec(), before.to_vec());
+    let Cylinder {
+        tracks,
+        marks,
+        lengths,
+    } = cylinder;
+    let done = station::write_cylinder(tracks, marks, lengths, &mut ours);
+    let expected = reference::write_cylinder(tracks, marks, lengths, &mut theirs);
+    assert_eq!(done, given(expected), "{note}");
+    same("file", &ours, &theirs, note);
+    let length = done.unwrap_or(0);
+    same("behind the file", &ours[length..], &before[length..], note);
+    ours.truncate(length);
+    done.map(|_| ours)
+}
+
+/// Demands that these tracks are written to this file, with just enough room.
+fn written_to(cylinder: &Cylinder, file: &[u8], seed: u64, note: &str) {
+    let before = noisy_file(seed, file.len());
+    let written = write_by_both(cylinder, &before, note).expect(note);
+    same("file", &written, file, note);
+}
+
+/// Demands that these tracks are read from a file, with just enough room; gives them as they were read.
+fn read_from(file: &[u8], cylinder: &Cylinder, seed: u64, note: &str) -> Cylinder {
+    let sum = cylinder.tracks.len();
+    let before = noisy(seed, [sum, sum, cylinder.lengths.len()]);
+    let read = read_by_both(file, &before, note).expect(note);
+    same_cylinder(&read, cylinder, note);
+    read
+}
+
+/// Buffers for any file.
+fn room_for_any() -> Cylinder {
+    noisy(0, [MOST_BYTES, MOST_BYTES, MOST_TRACKS])
+}
+
+/// Read cylinder into these buffers; gives the number of its answer.
+fn number_read(file: &[u8], before: &Cylinder, note: &str) -> u8 {
+    let done = answer_of(&read_by_both(file, before, note));
+    assert_eq!(done, answer(done.number, 0), "{note}");
+    done.number
+}
+
+/// Demands each number of tracks from one to ten, each so many times.
+fn each_number_of_tracks(met: &BTreeMap<usize, u64>, least: u64) {
+    assert_eq!(
+        met.keys().copied().collect::<Vec<_>>(),
+        Vec::from_iter(1..=MOST_TRACKS)
+    );
+    assert!(met.values().all(|&times| times >= least), "{met:?}");
+}
+
+/// What is read writes back to the same file.
+#[test]
+fn read_cylinder_as_the_reference() {
+    let (mut tally, mut met) = (Tally::new("read cylinder", 20_000), BTreeMap::new());
+    for seed in tally.seeds() {
+        let (w, note) = (wanted_read_cylinder(seed), format!("seed {seed}"));
+        let before = noisy(seed, [w.tracks_length, w.marks_length, w.lengths_count]);
+        let done = read_by_both(&w.file, &before, &note);
+        tally.count(answer_of(&done));
+        if let Ok(read) = done {
+            written_to(&read, &w.file, seed, &note);
+            *met.entry(read.lengths.len()).or_default() += 1;
+        }
+    }
+    each_number_of_tracks(&met, 50);
+    tally.finish(20_000, &READ);
+}
+
+/// What is written reads back: the number of tracks, their lengths, bytes and marks.
+#[test]
+fn write_cylinder_as_the_reference() {
+    let (mut tally, mut met) = (Tally::new("write cylinder", 20_000), BTreeMap::new());
+    for seed in tally.seeds() {
+        let (w, note) = (wanted_write_cylinder(seed), format!("seed {seed}"));
+        let before = noisy_file(seed, w.file_length);
+        let done = write_by_both(&w.cylinder, &before, &note);
+        tally.count(answer_of(&done));
+        if let Ok(file) = done {
+            let read = read_from(&file, &w.cylinder, seed, &note);
+            *met.entry(read.lengths.len()).or_default() += 1;
+        }
+    }
+    each_number_of_tracks(&met, 50);
+    tally.finish(20_000, &WRITE);
+}
+
+/// A track by Blank, with one more sector by Add where it can be added, and the last one's S, key and data.
+type Written = (Track, (u8, Vec<u8>, Vec<u8>));
+
+/// What Blank writes, if it does what is wanted.
+fn blanked(w: WantedBlank) -> Option<Written> {
+    let mut new = noise(w.s.into(), w.length, w.marks_length);
+    let done = station::blank(&mut new.0, &mut new.1, &new_track(&w));
+    done.is_done().then_some((new, (w.s, w.key, w.data)))
+}
+
+/// What Add writes, if it does what is wanted.
+fn added(old: &Track, w: WantedAdd) -> Option<Written> {
+    let mut new = noise(w.s.into(), old.0.len(), old.1.len());
+    let done = station::add((&old.0, &old.1), &mut new.0, &mut new.1, &new_sector(&w));
+    done.is_done().then_some((new, (w.s, w.key, w.data)))
+}
+
+/// One track of a seed.
+fn written(seed: u64) -> Written {
+    let wanted = |nth: u64| wanted_blank(seed ^ nth << 40);
+    let blank = (0..).find_map(|nth| blanked(wanted(nth)));
+    let blank = blank.expect("Blank does one of these");
+    let w = wanted_add(seed, &blank.0 .0, &blank.0 .1);
+    added(&blank.0, w).unwrap_or(blank)
+}
+
+/// Tracks made by Blank and Add go to a file and come back, are accepted, and give each its sector's key and data.
+#[test]
+fn written_tracks_survive() {
+    let mut tally = Tally::new("written, sent to a file and read", 1_000);
+    for seed in tally.seeds() {
+        let note = format!("seed {seed}");
+        let count = seed % MOST_TRACKS as u64 + 1;
+        let (tracks, sectors): (Vec<_>, Vec<_>) = (0..count)
+            .map(|head| written(seed.wrapping_mul(10).wrapping_add(head)))
+            .unzip();
+        let (file, cylinder) = (cylinder_file(&tracks), cylinder_of(&tracks));
+        written_to(&cylinder, &file, seed, &note);
+        let read = read_from(&file, &cylinder, seed, &note);
+        let mut start = 0;
+        for (&length, (s, key, data)) in read.lengths.iter().zip(&sectors) {
+            let part = start..start + usize::from(length);
+            let track = (&read.tracks[part.clone()], &read.marks[part.clone()]);
+            reads_back(track, *s, key, data, &note);
+            start = part.end;
+        }
+        assert_eq!(start, read.tracks.len(), "{note}");
+        tally.count(Answer::DONE);
+    }
+    tally.finish(1_000, &[0]);
+}
+
+/// Sound tracks of these lengths; what they gain is marked.
+fn tracks_of(lengths: &[usize]) -> Vec<Track> {
+    let track = |(seed, &length): (u64, &usize)| {
+        let (mut track, mut marks) = sound(seed);
+        track.resize(length, 0x0E);
+        marks.resize(length, 1);
+        (track, marks)
+    };
+    (0..).zip(lengths).map(track).collect()
+}
+
+/// Every length in range goes there and back; of the last byte of marks exactly the spare bits are refused.
+#[test]
+fn every_length_and_its_spare_bits() {
+    let (room, mut spare_counts) = (room_for_any(), BTreeSet::new());
+    for length in 3_815..=4_002 {
+        for lengths in [&[length][..], &[length, 3_906]] {
+            let tracks = tracks_of(lengths);
+            let (mut file, cylinder) = (cylinder_file(&tracks), cylinder_of(&tracks));
+            let note = format!("{lengths:?}");
+            written_to(&cylinder, &file, 0, &note);
+            read_from(&file, &cylinder, 0, &note);
+            let spare = 7 - (length - 1) % 8;
+            spare_counts.insert(spare);
+            let last = 4 + 6 * lengths.len() + length + length.div_ceil(8) - 1;
+            for bit in 0..8 {
+                file[last] ^= 1 << bit;
+                let number = if bit < spare { 21 } else { 0 };
+                assert_eq!(
+                    number_read(&file, &room, &note),
+                    number,
+                    "bit {bit}, {note}"
+                );
+                file[last] ^= 1 << bit;
+            }
+        }
+    }
+    assert_eq!(spare_counts, (0..8).collect());
+}
+
+/// Every number of tracks that a header can have, alone and with the table of one track, and every byte of the zero field.
+#[test]
+fn every_header() {
+    let mut file = cylinder_file(&tracks_of(&[3_906]));
+    let (room, mut met) = (noisy(0, [8, 8, 2]), BTreeMap::<_, u32>::new());
+    for count in 0..=0xFFFF_u16 {
+        let note = format!("{count} tracks");
+        file[..2].copy_from_slice(&count.to_be_bytes());
+        let numbers = [4, 10].map(|length| number_read(&file[..length], &room, &note));
+        *met.entry(numbers).or_default() += 1;
+    }
+    assert_eq!(met, [([18, 18], 65_526), ([20, 20], 10)].into());
+    let room = room_for_any();
+    file[..2].copy_from_slice(&[0, 1]);
+    for (place, byte) in (2..4).flat_map(|place| (0..=255).map(move |byte| (place, byte))) {
+        file[place] = byte;
+        let wanted = if byte == 0 { 0 } else { 18 };
+        let note = format!("{byte} at {place}");
+        assert_eq!(number_read(&file, &room, &note), wanted, "{note}");
+        file[place] = 0;
+    }
+}
+
+/// Every bit of the header and of the table is looked at.
+#[test]
+fn every_bit_of_header_and_table() {
+    let room = room_for_any();
+    for lengths in [&[3_906][..], &[3_815, 4_002, 3_906], &[3_912; 10]] {
+        let mut file = cylinder_file(&tracks_of(lengths));
+        let mut met = BTreeSet::new();
+        for place in 0..4 + 6 * lengths.len() {
+            for bit in 0..8 {
+                let note = format!("bit {bit} at {place} of {lengths:?}");
+                file[place] ^= 1 << bit;
+                met.insert(number_read(&file, &room, &note));
+                file[place] ^= 1 << bit;
+            }
+        }
+        assert!(met.is_subset(&[1, 18, 19, 20].into()), "{met:?}");
+        assert_eq!(number_read(&file, &room, "as it was"), 0);
+    }
+}
+
+/// Of every length that a file may be cut to or lengthened to, only its own is not refused.
+#[test]
+fn every_length_of_a_file() {
+    let room = room_for_any();
+    for lengths in [&[3_815][..], &[3_816, 3_817]] {
+        let mut file = cylinder_file(&tracks_of(lengths));
+        let right = file.len();
+        file.extend([0; 600]);
+        for length in 0..=file.len() {
+            let note = format!("{length} bytes of {lengths:?}");
+            let number = if length == right { 0 } else { 20 };
+            assert_eq!(number_read(&file[..length], &room, &note), number, "{note}");
+        }
+    }
+}
+
+/// Buffers and a list next to what a file needs.
+#[test]
+fn rooms_at_their_edges() {
+    for lengths in [&[3_815][..], &[4_002, 3_816], &[4_002; 10]] {
+        let tracks = tracks_of(lengths);
+        let (file, cylinder) = (cylinder_file(&tracks), cylinder_of(&tracks));
+        let (sum, count) = (cylinder.tracks.len(), lengths.len());
+        let (near, counts) = ([0, sum - 1, sum, sum + 1], [0, count - 1, count, count + 1]);
+        let mut done = 0;
+        for (tracks, marks) in near.iter().flat_map(|&a| near.map(|b| (a, b))) {
+            for list in counts {
+                let note = format!("{tracks}, {marks}, {list} for {sum}, {count}");
+                let read = read_by_both(&file, &noisy(1, [tracks, marks, list]), &note);
+                let enough = tracks >= sum && marks >= sum && list >= count;
+                let number = if enough { 0 } else { 24 };
+                assert_eq!(answer_of(&read), answer(number, 0), "{note}");
+                done += usize::from(enough);
+            }
+        }
+        assert_eq!(done, 8);
+        for room in [0, 3, 4, sum, file.len() - 1, file.len(), file.len() + 1] {
+            let note = format!("room of {room} for {}", file.len());
+            let written = write_by_both(&cylinder, &noisy_file(1, room), &note);
+            let number = if room >= file.len() { 0 } else { 24 };
+            assert_eq!(answer_of(&written), answer(number, 0), "{note}");
+        }
+    }
+}
+
+/// Lists of any number of lengths, each length next to the range, and slices next to the sum.
+#[test]
+fn lists_and_slices_at_their_edges() {
+    let (room, file_room) = (room_for_any(), noisy_file(2, 60_000));
+    let number = |cylinder: &Cylinder, note: &str| {
+        let done = answer_of(&write_by_both(cylinder, &file_room, note));
+        assert_eq!(done, answer(done.number, 0), "{note}");
+        done.number
+    };
+    for count in (0..=12).chain([255, 256, 257, 266, 65_535, 65_536, 65_537]) {
+        let mut cylinder = cylinder_of(&tracks_of(&vec![3_906; count.min(12)]));
+        cylinder.lengths.resize(count, 3_906);
+        let wanted = if (1..=10).contains(&count) { 0 } else { 18 };
+        assert_eq!(number(&cylinder, "count"), wanted, "{count}");
+    }
+    for count in [1, 2, 10] {
+        for entry in 0..count {
+            for (length, wanted) in [(0, 1), (3_814, 1), (3_815, 0), (4_002, 0), (4_003, 1)] {
+                let mut lengths = vec![3_906; count];
+                lengths[entry] = length;
+                let tracks = tracks_of(&lengths);
+                assert_eq!(number(&cylinder_of(&tracks), "L"), wanted, "{length}");
+                // The same in a file that is laid out for it.
+                let file = cylinder_file(&tracks);
+                assert_eq!(number_read(&file, &room, "L"), wanted, "{length}");
+            }
+        }
+        let right = cylinder_of(&tracks_of(&vec![3_906; count]));
+        let sum = 3_906 * count;
+        let near = [0, sum - 1, sum, sum + 1, sum + 3_906];
+        for (tracks, marks) in near.iter().flat_map(|&a| near.map(|b| (a, b))) {
+            let mut cylinder = right.clone();
+            cylinder.tracks.resize(tracks, 0);
+            cylinder.marks.resize(marks, 0);
+            let wanted = u8::from((tracks, marks) != (sum, sum));
+            assert_eq!(number(&cylinder, "slices"), wanted, "{tracks} {marks}");
+        }
+    }
+}
+
+/// A mark out of rule at every place of two tracks, and every value of one mark.
+#[test]
+fn marks_out_of_rule() {
+    let mut cylinder = cylinder_of(&tracks_of(&[3_815, 3_816]));
+    let room = noisy_file(3, LONGEST_FILE);
+    let places = (0..cylinder.marks.len()).map(|place| (place, 2));
+    for (place, mark) in places.chain((0..=255).map(|mark| (3_815, mark))) {
+        let old = std::mem::replace(&mut cylinder.marks[place], mark);
+        let note = format!("mark {mark} at {place}");
+        let done = answer_of(&write_by_both(&cylinder, &room, &note));
+        assert_eq!(done, answer(u8::from(mark > 1), 0), "{note}");
+        cylinder.marks[place] = old;
+    }
+}
+
+/// A file and the lengths of the buffers that are lent for it.
+type Reading = (Vec<u8>, [usize; 3]);
+/// The number that a fault has, and what makes it.
+type Fault = (u8, fn(&mut Reading));
+
+/// The faults of a file of two tracks of 3,815 and 3,906 bytes, in the order in which they are told.
+const FAULTS: [Fault; 8] = [
+    (20, |(file, _)| file.truncate(3)),
+    (18, |(file, _)| file[3] = 1),
+    (20, |(file, _)| file.truncate(15)),
+    (1, |(file, _)| file[10] = 0),
+    (19, |(file, _)| file[9] ^= 1),
+    (20, |(file, _)| file.truncate(file.len() - 1)),
+    (21, |(file, _)| file[16 + 4_292 - 1] |= 1),
+    (24, |(_, rooms)| rooms[1] -= 1),
+];
+
+/// Every set of these faults gives the first of them.
+#[test]
+fn order_of_the_answers() {
+    let file = cylinder_file(&tracks_of(&[3_815, 3_906]));
+    for set in 0..1_u32 << FAULTS.len() {
+        let mut reading = (file.clone(), [7_721, 7_721, 2]);
+        let mut first = 0;
+        // The last one first, so that each finds the bytes that it alters.
+        for (nth, (number, fault)) in FAULTS.iter().enumerate().rev() {
+            if set >> nth & 1 == 1 {
+                fault(&mut reading);
+                first = *number;
+            }
+        }
+        let note = format!("set {set:08b}");
+        let done = read_by_both(&reading.0, &noisy(4, reading.1), &note);
+        assert_eq!(answer_of(&done), answer(first, 0), "{note}");
+    }
+}
