@@ -7,7 +7,7 @@ MAKEFLAGS += --no-print-directory
 .PHONY: all list test prove host-test lib examples try soak bench times sample fmt clean
 
 LIB := target/staticlib/libstation.a
-EXAMPLES := target/examples/station target/examples/reader target/examples/cells
+EXAMPLES := target/examples/station target/examples/reader target/examples/cells target/examples/cylinder
 CARGO := cargo --offline
 CFLAGS ?= -O2
 SOAK ?= 200000
@@ -52,7 +52,7 @@ target/examples/%: examples/%.c include/iso3561.h $(LIB)
 
 # The C station makes the sample's very bytes, tracklist lists them, and the C reader reads them and prints their layout,
 # and of a defective track with its alternative.
-# The third program sends a track to bit cells and reads it back.
+# The third program sends a track to bit cells and reads it back, and the fourth sends three tracks to one file and reads them back.
 try: examples
 	@mkdir -p build
 	@rt check tracklist > build/list.log 2>&1 || { cat build/list.log; exit 1; }
@@ -62,6 +62,7 @@ try: examples
 	target/examples/reader target/examples/case5.bin
 	target/examples/reader samples/defective.bin samples/alternative.bin
 	target/examples/cells target/examples/cells.bin
+	target/examples/cylinder target/examples/cylinder.bin
 
 # As many seeds as one likes: make soak SOAK=1000000 SEED=5000000
 soak: lib
