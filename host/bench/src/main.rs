@@ -1,9 +1,10 @@
-//! Times of Accept, List, Find, Add, Correct, From cells and To cells over a full pack, and of the check alone, beside those of the reference.
+//! Times of Accept, List, Find, Add, Correct, From cells, To cells, Read cylinder and Write cylinder over a full pack, and of the check alone, beside those of the reference.
 //!
 //! Both get the same tracks in the same buffers, as they come and uncleared, and take turns within one run.
 
 mod calls;
 mod checks;
+mod cylinders;
 mod jobs;
 
 use calls::*;
@@ -97,5 +98,6 @@ fn main() {
     measure_all("sound", &mut jobs, &CELL_CALLS);
     spoil_cells(&mut jobs);
     measure_all("damaged", &mut jobs, &CELL_CALLS);
+    cylinders::measure_all();
     checks::measure_all();
 }
