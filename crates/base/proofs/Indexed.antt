@@ -43,6 +43,12 @@ unfolding sumTo
 sum-const d zero = sym (zero-mul d)
 sum-const d (suc n) = rw (sum-const d n) (sym (suc-mul n d))
 
+-- Summands of which none is more than d are together no more than as many times d.
+pub sum-most : (f : ℕ → ℕ) (n d : ℕ) → ((k : ℕ) → k < n → f k ≤ d) → sumTo f n ≤ n * d
+unfolding sumTo
+sum-most f zero d h = omega (arith, zero-mul d)
+sum-most f (suc n) d h = rw (suc-mul n d) (omega (arith, sum-most f n d (λ k l. h k (omega arith)), h n (omega arith)))
+
 -- One more test.
 pub all-next : (p : ℕ → Bool) (n : ℕ) → allTo p (n + 1) ≡ (allTo p n && p n)
 unfolding allTo

@@ -16,25 +16,14 @@ use Rattle.base.proofs.Tests.{and-both, and-make}
 use Rattle.crc.specs.Halves.{AllBytes}
 use Rattle.crc.proofs.Bytes.{all-bytes, byte-at}
 use Rattle.format.specs.Lent.{lengthRight, marksLegal}
-use Rattle.cylinder.specs.Cylinder.{trackCount, lengthOf, startOf, partOf, trackCountRight, lengthsRight, cylinderLent}
+use Rattle.format.proofs.Base.Marks.{mark-at, marks-at}
+use Rattle.cylinder.specs.Cylinder.{trackCount, lengthOf, startOf, partOf, trackOf, trackMarksOf, trackCountRight, lengthsRight, cylinderLent}
 use Rattle.cylinder.specs.Packed.{packedSize, packed, spareClear}
 use Rattle.cylinder.specs.File.{twoBytes, fourBytes, headerLength, entryLength, tableEnd, storedSize, offsetOf, header, entry, table, storedTrack, storedTracks, cylinderFile}
 use Rattle.cylinder.specs.Reading.{twoBytesAt, fourBytesAt, trackCountIn, zeroField, lengthIn, offsetIn, offsetDue, trackIn, packedIn, marksIn, headerRight, offsetsRight, sparesClear, cylinderIn}
 use Rattle.cylinder.proofs.Sound.{SoundFile, offset-next, offset-grows}
 use Rattle.cylinder.proofs.Packed.{length-unpacked, packed-unpacked, unpacked-legal}
-use Rattle.cylinder.proofs.Parts.{part-keeps, part-joined}
-
--- Legal marks behind legal marks are legal.
-legal-append : (a b : List ℕ) → marksLegal a ≡ true → marksLegal b ≡ true → marksLegal (a ++ b) ≡ true
-unfolding marksLegal
-legal-append [] b e h = h
-legal-append (k ∷ a) b e h = let q = and-both (ltb k 2) (marksLegal a) e in and-make (q .0) (legal-append a b (q .1) h)
-
--- Legal marks joined are legal.
-legal-join : (x : ℕ → List ℕ) (n : ℕ) → ((k : ℕ) → marksLegal (x k) ≡ true) → marksLegal (joinTo x n) ≡ true
-unfolding joinTo marksLegal
-legal-join x zero e = refl
-legal-join x (suc n) e = legal-append (joinTo x n) (x n) (legal-join x n e) (e n)
+use Rattle.cylinder.proofs.Parts.{join-keeps, part-keeps, part-joined}
 
 -- Two bytes that are read and written are the same bytes.
 two-back : (f : List ℕ) (p : ℕ) → AllBytes f → p + 2 ≤ length f → twoBytes (twoBytesAt f p) ≡ take 2 (drop p f)
@@ -109,6 +98,10 @@ module _ (f : List ℕ) (s : SoundFile f) where
       let j = join-part x (trackCountIn f) k [] h in
       rw (held-length k h, held-start k (omega arith)) (rw (append-nil (joinTo x (trackCountIn f)), e k h, length-held x e k (omega arith)) at j)
 
+  -- Each track of the cylinder is the one in the file, and so are its marks.
+  pub track-held : (k : ℕ) → k < trackCountIn f → (trackOf (cylinderIn f) k ≡ trackIn f k) × (trackMarksOf (cylinderIn f) k ≡ marksIn f k)
+  track-held k h = (part-held (trackIn f) length-track k h, part-held (marksIn f) length-marks k h)
+
   -- The cylinder is lent within the rule.
   pub lent-held : cylinderLent (cylinderIn f) ≡ true
   unfolding cylinderLent lengthsRight marksIn
@@ -118,7 +111,7 @@ module _ (f : List ℕ) (s : SoundFile f) where
       (and-make (all-same _ _ n (λ k h. ap lengthRight (held-length k h)) ∙ s .lengths-right)
       (and-make (eq-eqb _ _ (length-held (trackIn f) length-track n (omega arith) ∙ sym (held-start n (omega arith))))
       (and-make (eq-eqb _ _ (length-held (marksIn f) length-marks n (omega arith) ∙ sym (held-start n (omega arith))))
-      (legal-join (marksIn f) n (λ k. unpacked-legal (lengthIn f k) (packedIn f k))))))
+      (marks-at (joinTo (marksIn f) n) (join-keeps (λ (z : ℕ). z < 2) (marksIn f) n (λ k h. mark-at (marksIn f k) (unpacked-legal (lengthIn f k) (packedIn f k))))))))
 
   -- Its tracks are as many as the rule allows.
   pub count-held : trackCountRight (trackCount (cylinderIn f)) ≡ true
@@ -171,7 +164,7 @@ module _ (f : List ℕ) (s : SoundFile f) where
         let b : AllBytes (packedIn f k) = all-bytes (packedIn f k) (part-keeps (λ (z : ℕ). z < 256) p (packedSize l) f (byte-at f bytes)) in
         let e : length (packedIn f k) ≡ packedSize l = part-length p (packedSize l) f (omega (arith, track-inside k h)) in
         let c = all-holds (λ j. spareClear (lengthIn f j) (packedIn f j)) (trackCountIn f) k (s .spares-clear) h in
-        ap₂ (λ (x y : List ℕ). x ++ packed y) (part-held (trackIn f) length-track k h) (part-held (marksIn f) length-marks k h)
+        ap₂ (λ (x y : List ℕ). x ++ packed y) (track-held k h .0) (track-held k h .1)
         ∙ ap (λ (x : List ℕ). trackIn f k ++ x) (packed-unpacked l (packedIn f k) e b c)
         ∙ sym (part-joined (offsetDue f k) l (packedSize l) f)
 

@@ -3,8 +3,10 @@ pub mod Packed
 pub mod Sizes
 pub mod Sound
 pub mod Parts
+pub mod CylinderParts
 pub mod WrittenFile
 pub mod HeldCylinder
+pub mod FileBytes
 pub mod RoundTrip
 pub mod Tells
 pub mod Answers

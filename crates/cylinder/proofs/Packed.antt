@@ -1,5 +1,5 @@
 -- What packing and unpacking undo of each other, and the spare bits.
-use mathlib.Core.Path.{_≡_, refl, sym, ap, _∙_}
+use mathlib.Core.Path.{_≡_, refl, sym, ap, _∙_, subst}
 use Prim.Native.Nat.{ℕ, zero, suc, _+_, _-_, _*_, _/_, _%_, _≤_, _<_}
 use native.Mathlib.Nat.{add-zero}
 use native.Mathlib.Omega.{arith}
@@ -11,7 +11,7 @@ use borrow.Author.Tests.{eqb-true, eq-eqb, ne-eqb, ltb-true, ltb-false}
 use Rattle.base.proofs.Indexed.{all-holds, each-holds, one-fails, length-list, getD-list, list-is}
 use Rattle.base.proofs.Tests.{cases}
 use Rattle.crc.specs.Halves.{AllBytes}
-use Rattle.crc.proofs.Bytes.{byte-at}
+use Rattle.crc.proofs.Bytes.{all-bytes, byte-at}
 use Rattle.format.specs.Lent.{marksLegal}
 use Rattle.format.proofs.Base.Marks.{mark-at, marks-at}
 use Rattle.cylinder.specs.Packed.{packedSize, octet, octetAt, packed, bitOf, markAt, unpacked, spareClear}
@@ -71,6 +71,26 @@ pub unpacked-packed : (m : List ℕ) → marksLegal m ≡ true → unpacked (len
 unfolding unpacked
 unpacked-packed m e =
     list-is (markAt (packed m)) m (length m) 0 refl (λ i h. mark-packed m i (omega arith) ∙ omega (arith, mark-at m e i h))
+
+-- Eight bits with their weights are less than 256.
+weights : (a b c d e f g h : ℕ) → a < 2 → b < 2 → c < 2 → d < 2 → e < 2 → f < 2 → g < 2 → h < 2
+    → a * 128 + b * 64 + c * 32 + d * 16 + e * 8 + f * 4 + g * 2 + h < 256
+weights a b c d e f g h p q r s t u v w = omega arith
+
+-- The byte of eight marks is a byte.
+octet-small : (a b c d e f g h : ℕ) → octet a b c d e f g h < 256
+unfolding octet
+octet-small a b c d e f g h =
+    weights (a % 2) (b % 2) (c % 2) (d % 2) (e % 2) (f % 2) (g % 2) (h % 2)
+    (omega arith) (omega arith) (omega arith) (omega arith) (omega arith) (omega arith) (omega arith) (omega arith)
+
+-- Packed marks are bytes.
+pub packed-bytes : (m : List ℕ) → AllBytes (packed m)
+unfolding packed octetAt
+packed-bytes m =
+    all-bytes (packed m) (λ i h.
+    let g : i < packedSize (length m) = omega (arith, length-packed m) in
+    subst (λ (x : ℕ). x < 256) (sym (getD-list (λ j. octetAt m (j * 8)) (packedSize (length m)) i 0 g)) (octet-small _ _ _ _ _ _ _ _))
 
 -- What is unpacked are legal marks.
 pub unpacked-legal : (l : ℕ) (bs : List ℕ) → marksLegal (unpacked l bs) ≡ true

@@ -21,6 +21,7 @@ use Rattle.cylinder.specs.Reading.{lengthIn, judgeFile, cylinderIn, Room
 use Rattle.cylinder.proofs.Sound.{SoundFile, file-sound, sound-file}
 use Rattle.cylinder.proofs.Sizes.{Lent, cylinder-lent}
 use Rattle.cylinder.proofs.WrittenFile.{count-read, length-read, cylinder-read, file-read}
+use Rattle.cylinder.proofs.FileBytes.{file-bytes}
 use Rattle.cylinder.proofs.HeldCylinder.{lent-held, count-held, file-back}
 
 -- What is lent to be filled is enough for the cylinder.
@@ -58,7 +59,7 @@ file-reads c r n e h =
     let t : startOf (c .lengths) (trackCount c) ≤ r .tracks = omega (arith, lent .tracks-long) in
     let m : startOf (c .lengths) (trackCount c) ≤ r .marks = omega (arith, lent .marks-long) in
     let room : roomFor (cylinderFile c) r ≡ true = rw (count-read c, s) (and-make (le-leb _ _ t) (and-make (le-leb _ _ m) (le-leb _ _ (h .2)))) in
-    rw (sound-file (cylinderFile c) (file-read c lent n), room) (ap good (cylinder-read c lent))
+    rw (sound-file (cylinderFile c) (file-read c lent n), room) (ap good (cylinder-read c e))
 
 -- What was written is read as the same cylinder.
 pub write-read : (c : Cylinder) (room : ℕ) (f : List ℕ) (r : Room) → writeCylinder c room ≡ good f → RoomFor c r → readCylinder f r ≡ good c
@@ -83,7 +84,7 @@ read-write f r c room b e h =
     let q = read-file f r c b e in
     lent-write c room (l .0) (l .1) (subst (λ (z : List ℕ). length z ≤ room) q h) ∙ ap good (sym q)
 
--- One file and no other is read as a cylinder of one to ten tracks that is lent within the rule.
-pub one-file : (c : Cylinder) (r : Room) → trackCountRight (trackCount c) ≡ true → cylinderLent c ≡ true → RoomFor c r
-    → (readCylinder (cylinderFile c) r ≡ good c) × ((f : List ℕ) → AllBytes f → readCylinder f r ≡ good c → f ≡ cylinderFile c)
-one-file c r n e h = (file-reads c r n e h, λ f b g. read-file f r c b g)
+-- Exactly one file of bytes is read as a cylinder of one to ten tracks of bytes that is lent within the rule.
+pub one-file : (c : Cylinder) (r : Room) → trackCountRight (trackCount c) ≡ true → cylinderLent c ≡ true → AllBytes (c .tracks) → RoomFor c r
+    → AllBytes (cylinderFile c) × (readCylinder (cylinderFile c) r ≡ good c) × ((f : List ℕ) → AllBytes f → readCylinder f r ≡ good c → f ≡ cylinderFile c)
+one-file c r n e b h = (file-bytes c n e b, file-reads c r n e h, λ f a g. read-file f r c a g)

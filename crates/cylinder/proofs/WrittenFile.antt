@@ -12,13 +12,14 @@ use Rattle.base.proofs.Indexed.{sum-same, all-same, each-holds, join-part, join
 use Rattle.base.proofs.Tests.{and-make}
 use Rattle.format.specs.Lent.{lengthRight, marksLegal}
 use Rattle.format.proofs.Base.Marks.{mark-at, marks-at}
-use Rattle.cylinder.specs.Cylinder.{Cylinder, trackCount, lengthOf, startOf, partOf, trackOf, trackMarksOf, trackCountRight, lengthsRight}
+use Rattle.cylinder.specs.Cylinder.{Cylinder, trackCount, lengthOf, startOf, partOf, trackOf, trackMarksOf, trackCountRight, lengthsRight, cylinderLent}
 use Rattle.cylinder.specs.Packed.{packedSize, packed, unpacked, spareClear}
 use Rattle.cylinder.specs.File.{twoBytes, fourBytes, headerLength, entryLength, tableEnd, storedSize, offsetOf, header, entry, table, storedTrack, storedTracks, cylinderFile}
 use Rattle.cylinder.specs.Reading.{twoBytesAt, fourBytesAt, trackCountIn, zeroField, lengthIn, offsetIn, offsetDue, trackIn, packedIn, marksIn, headerRight, offsetsRight, sparesClear, cylinderIn}
 use Rattle.cylinder.proofs.Sound.{SoundFile}
-use Rattle.cylinder.proofs.Sizes.{Lent, length-header, length-entry, length-entries, length-table, length-part, length-stored, length-joined, length-file}
+use Rattle.cylinder.proofs.Sizes.{Lent, cylinder-lent, length-header, length-entry, length-entries, length-table, length-part, length-stored, length-joined, length-file}
 use Rattle.cylinder.proofs.Packed.{unpacked-packed, spare-packed}
+use Rattle.cylinder.proofs.CylinderParts.{legal-part, joined-tracks}
 use Rattle.cylinder.proofs.Parts.{part-at, part-keeps, part-first, part-second}
 
 -- The two bytes of a number, read again.
@@ -30,10 +31,6 @@ two-read f p x a b = omega arith
 four-read : (f : List ℕ) (p x : ℕ) → twoBytesAt f p ≡ x / 65536 → twoBytesAt f (p + 2) ≡ x % 65536 → fourBytesAt f p ≡ x
 unfolding fourBytesAt
 four-read f p x a b = omega arith
-
--- A part of legal marks is legal.
-legal-part : (p m : ℕ) (xs : List ℕ) → marksLegal xs ≡ true → marksLegal (take m (drop p xs)) ≡ true
-legal-part p m xs e = marks-at (take m (drop p xs)) (part-keeps (λ (z : ℕ). z < 2) p m xs (mark-at xs e))
 
 -- Cylinders of the same three lists are the same.
 cylinder-same : {a b : Cylinder} → a .tracks ≡ b .tracks → a .marks ≡ b .marks → a .lengths ≡ b .lengths → a ≡ b
@@ -155,32 +152,18 @@ module _ (c : Cylinder) (lent : Lent c) where
 
   -- and the marks themselves.
   marks-read : (k : ℕ) → k < trackCount c → marksIn (cylinderFile c) k ≡ trackMarksOf c k
-  unfolding marksIn partOf
+  unfolding marksIn
   marks-read k h =
       let e = length-part (c .lengths) (c .marks) k (trackCount c) (lent .marks-long) h in
       rw (length-read c k h, packed-read k h)
       (ap (λ (z : ℕ). unpacked z (packed (trackMarksOf c k))) (sym e)
-      ∙ unpacked-packed (trackMarksOf c k) (legal-part (startOf (c .lengths) k) (lengthOf (c .lengths) k) (c .marks) (lent .marks-legal)))
+      ∙ unpacked-packed (trackMarksOf c k) (legal-part (c .lengths) (c .marks) k (lent .marks-legal)))
 
   -- The spare bits of each track are clear.
   spare-read : (k : ℕ) → k < trackCount c → spareClear (lengthIn (cylinderFile c) k) (packedIn (cylinderFile c) k) ≡ true
   spare-read k h =
       let e = length-part (c .lengths) (c .marks) k (trackCount c) (lent .marks-long) h in
       rw (length-read c k h, packed-read k h, ← e) (spare-packed (trackMarksOf c k))
-
-  -- All parts of a list that is as long as the Ls together are the list.
-  parts-are : (xs : List ℕ) → length xs ≡ startOf (c .lengths) (trackCount c) → joinTo (partOf (c .lengths) xs) (trackCount c) ≡ xs
-  unfolding partOf
-  parts-are xs e = join-cut (lengthOf (c .lengths)) xs (trackCount c) ∙ take-all (startOf (c .lengths) (trackCount c)) xs (omega arith)
-
-  -- The cylinder in the file is the one that was written.
-  pub cylinder-read : cylinderIn (cylinderFile c) ≡ c
-  cylinder-read =
-      rw (count-read c)
-      (cylinder-same
-      (join-same (trackIn (cylinderFile c)) (trackOf c) (trackCount c) track-read ∙ parts-are (c .tracks) (lent .tracks-long))
-      (join-same (marksIn (cylinderFile c)) (trackMarksOf c) (trackCount c) marks-read ∙ parts-are (c .marks) (lent .marks-long))
-      (list-is (lengthIn (cylinderFile c)) (c .lengths) (trackCount c) 0 refl (length-read c)))
 
   -- The file of one to ten tracks is sound.
   pub file-read : trackCountRight (trackCount c) ≡ true → SoundFile (cylinderFile c)
@@ -199,3 +182,14 @@ module _ (c : Cylinder) (lent : Lent c) where
         length-due = rw (count-read c) due;
         spares-clear = rw (count-read c) (each-holds _ n spare-read);
       }
+
+-- The cylinder in the file is the one that was written.
+pub cylinder-read : (c : Cylinder) → cylinderLent c ≡ true → cylinderIn (cylinderFile c) ≡ c
+cylinder-read c e =
+    let lent = cylinder-lent c e in
+    let j = joined-tracks c e in
+    rw (count-read c)
+    (cylinder-same
+    (join-same (trackIn (cylinderFile c)) (trackOf c) (trackCount c) (track-read c lent) ∙ j .0)
+    (join-same (marksIn (cylinderFile c)) (trackMarksOf c) (trackCount c) (marks-read c lent) ∙ j .1)
+    (list-is (lengthIn (cylinderFile c)) (c .lengths) (trackCount c) 0 refl (length-read c)))
