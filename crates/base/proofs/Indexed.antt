@@ -23,13 +23,17 @@ unfolding sumTo
 sum-next f n = rw (add-one n)
 
 -- More of them are no less.
-pub sum-grows : (f : ℕ → ℕ) (k n : ℕ) → k ≤ n → sumTo f k ≤ sumTo f n
+sum-grows : (f : ℕ → ℕ) (k n : ℕ) → k ≤ n → sumTo f k ≤ sumTo f n
 unfolding sumTo
 sum-grows f k zero h = let e : k ≡ 0 = omega arith in rw e (omega arith)
 sum-grows f k (suc n) h =
     cases (ltb n k)
     (λ e. let l = ltb-true n k e in let q : k ≡ suc n = omega arith in rw q (omega arith))
     (λ e. let l = ltb-false n k e in omega (arith, sum-grows f k n l))
+
+-- The one at k and all before it are no more than the first n, for k below n.
+pub sum-within : (f : ℕ → ℕ) (k n : ℕ) → k < n → sumTo f k + f k ≤ sumTo f n
+sum-within f k n h = omega (arith, sum-next f k, sum-grows f (k + 1) n (omega arith))
 
 -- Equal summands have equal sums.
 pub sum-same : (f g : ℕ → ℕ) (n : ℕ) → ((k : ℕ) → k < n → f k ≡ g k) → sumTo f n ≡ sumTo g n

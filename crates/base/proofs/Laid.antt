@@ -9,7 +9,7 @@ use native.Mathlib.Numerals.{add-one}
 use lib.ListN.{length, take, drop, set, getD, replicate, length-replicate, length-drop, length-append, take-append-drop, drop-of-length-le, replicate-append-replicate}
 use lib.Seq.{take-suc, drop-drop, take-at, drop-at, set-split, length-take-le}
 use borrow.Rule.Slice.PartMut.{putMid, put-same}
-use Rattle.base.proofs.Lists.{part-all, part-all as part-rest}
+use Rattle.base.proofs.Lists.{part-all}
 use Rattle.base.specs.Laid.{laidOver, laidAt, laidIf, laidAtIf}
 
 -- Laid at place 0 is laid over the front.
@@ -69,7 +69,7 @@ unfolding laidAt
 laid-one a b old h = rw (add-one, set-split)
 
 -- One store right behind a laid list of n elements.
-pub laid-store : (a n b : ℕ) (xs old : List ℕ) → length xs ≡ n → a + n < length old → set (laidAt a xs old) (a + n) b ≡ laidAt a (xs ++ b ∷ []) old
+laid-store : (a n b : ℕ) (xs old : List ℕ) → length xs ≡ n → a + n < length old → set (laidAt a xs old) (a + n) b ≡ laidAt a (xs ++ b ∷ []) old
 laid-store a n b xs old e h =
     let g : a + length xs < length (laidAt a xs old) = omega (arith, length-laid a xs old (omega arith)) in
     let k : a ≤ length old = omega arith in

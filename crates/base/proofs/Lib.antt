@@ -4,3 +4,4 @@ pub mod Lists
 pub mod Filled
 pub mod Laid
 pub mod Indexed
+pub mod Filling

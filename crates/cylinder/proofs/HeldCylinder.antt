@@ -1,13 +1,13 @@
 -- The cylinder that a sound file holds: it is lent within the rule, and its file is the same file.
-use mathlib.Core.Path.{_≡_, refl, sym, ap, ap₂, _∙_}
-use Prim.Native.Nat.{ℕ, zero, suc, _+_, _*_, _/_, _%_, _≤_, _<_}
+use mathlib.Core.Path.{_≡_, sym, ap, ap₂, _∙_}
+use Prim.Native.Nat.{ℕ, suc, _+_, _*_, _/_, _%_, _≤_, _<_}
 use native.Mathlib.Omega.{arith}
 use native.Mathlib.Numerals.{add-one}
 use mathlib.Core.Bool.{true}
 use mathlib.Core.List.{List, [], _∷_, _++_, append-nil}
 use lib.ListN.{length, take, drop, getD, take-append-drop, length-drop}
 use lib.Seq.{take-all, take-add, drop-drop, drop-cons}
-use lib.Dec.{ltb, eqb}
+use lib.Dec.{eqb}
 use borrow.Author.Tests.{eqb-true, eq-eqb}
 use Rattle.base.specs.Indexed.{sumTo, joinTo}
 use Rattle.base.proofs.Indexed.{sum-same, sum-const, all-same, all-holds, length-join, join-part, join-same, join-cut, length-list, getD-list}
@@ -15,13 +15,13 @@ use Rattle.base.proofs.Lists.{part-length}
 use Rattle.base.proofs.Tests.{and-both, and-make}
 use Rattle.crc.specs.Halves.{AllBytes}
 use Rattle.crc.proofs.Bytes.{all-bytes, byte-at}
-use Rattle.format.specs.Lent.{lengthRight, marksLegal}
+use Rattle.format.specs.Lent.{lengthRight}
 use Rattle.format.proofs.Base.Marks.{mark-at, marks-at}
 use Rattle.cylinder.specs.Cylinder.{trackCount, lengthOf, startOf, partOf, trackOf, trackMarksOf, trackCountRight, lengthsRight, cylinderLent}
 use Rattle.cylinder.specs.Packed.{packedSize, packed, spareClear}
 use Rattle.cylinder.specs.File.{twoBytes, fourBytes, headerLength, entryLength, tableEnd, storedSize, offsetOf, header, entry, table, storedTrack, storedTracks, cylinderFile}
 use Rattle.cylinder.specs.Reading.{twoBytesAt, fourBytesAt, trackCountIn, zeroField, lengthIn, offsetIn, offsetDue, trackIn, packedIn, marksIn, headerRight, offsetsRight, sparesClear, cylinderIn}
-use Rattle.cylinder.proofs.Sound.{SoundFile, offset-next, offset-grows}
+use Rattle.cylinder.proofs.Sound.{SoundFile, piece-within}
 use Rattle.cylinder.proofs.Packed.{length-unpacked, packed-unpacked, unpacked-legal}
 use Rattle.cylinder.proofs.Parts.{join-keeps, part-keeps, part-joined}
 
@@ -57,22 +57,16 @@ four-back f p b h =
     ∙ ap₂ (λ (x y : List ℕ). x ++ y) (two-back f p b (omega arith)) (two-back f (p + 2) b (omega arith))
     ∙ sym (part-joined p 2 2 f)
 
+-- The marks of each track in a file are as many as its L says.
+pub length-marks : (f : List ℕ) (k : ℕ) → length (marksIn f k) ≡ lengthIn f k
+unfolding marksIn
+length-marks f k = length-unpacked (lengthIn f k) (packedIn f k)
+
 module _ (f : List ℕ) (s : SoundFile f) where
-  -- Each track lies in the file.
-  track-inside : (k : ℕ) → k < trackCountIn f → offsetDue f k + storedSize (lengthIn f k) ≤ length f
-  unfolding offsetDue
-  track-inside k h =
-      omega (arith, s .length-due, offset-next (trackCountIn f) (lengthIn f) k, offset-grows (trackCountIn f) (lengthIn f) (k + 1) (trackCountIn f) (omega arith))
-
-  -- Its bytes are as many as its L says,
-  length-track : (k : ℕ) → k < trackCountIn f → length (trackIn f k) ≡ lengthIn f k
+  -- The bytes of each track of a sound file are as many too.
+  pub length-track : (k : ℕ) → k < trackCountIn f → length (trackIn f k) ≡ lengthIn f k
   unfolding trackIn
-  length-track k h = part-length (offsetDue f k) (lengthIn f k) f (omega (arith, track-inside k h))
-
-  -- and so are its marks.
-  length-marks : (k : ℕ) → k < trackCountIn f → length (marksIn f k) ≡ lengthIn f k
-  unfolding marksIn
-  length-marks k h = length-unpacked (lengthIn f k) (packedIn f k)
+  length-track k h = part-length (offsetDue f k) (lengthIn f k) f (omega (arith, piece-within f s k h))
 
   -- The cylinder has as many tracks as the file names,
   held-count : trackCount (cylinderIn f) ≡ trackCountIn f
@@ -100,7 +94,7 @@ module _ (f : List ℕ) (s : SoundFile f) where
 
   -- Each track of the cylinder is the one in the file, and so are its marks.
   pub track-held : (k : ℕ) → k < trackCountIn f → (trackOf (cylinderIn f) k ≡ trackIn f k) × (trackMarksOf (cylinderIn f) k ≡ marksIn f k)
-  track-held k h = (part-held (trackIn f) length-track k h, part-held (marksIn f) length-marks k h)
+  track-held k h = (part-held (trackIn f) length-track k h, part-held (marksIn f) (λ j l. length-marks f j) k h)
 
   -- The cylinder is lent within the rule.
   pub lent-held : cylinderLent (cylinderIn f) ≡ true
@@ -110,7 +104,7 @@ module _ (f : List ℕ) (s : SoundFile f) where
       rw held-count
       (and-make (all-same _ _ n (λ k h. ap lengthRight (held-length k h)) ∙ s .lengths-right)
       (and-make (eq-eqb _ _ (length-held (trackIn f) length-track n (omega arith) ∙ sym (held-start n (omega arith))))
-      (and-make (eq-eqb _ _ (length-held (marksIn f) length-marks n (omega arith) ∙ sym (held-start n (omega arith))))
+      (and-make (eq-eqb _ _ (length-held (marksIn f) (λ j l. length-marks f j) n (omega arith) ∙ sym (held-start n (omega arith))))
       (marks-at (joinTo (marksIn f) n) (join-keeps (λ (z : ℕ). z < 2) (marksIn f) n (λ k h. mark-at (marksIn f k) (unpacked-legal (lengthIn f k) (packedIn f k))))))))
 
   -- Its tracks are as many as the rule allows.
@@ -162,7 +156,7 @@ module _ (f : List ℕ) (s : SoundFile f) where
         let l : ℕ = lengthIn f k in
         let p : ℕ = offsetDue f k + l in
         let b : AllBytes (packedIn f k) = all-bytes (packedIn f k) (part-keeps (λ (z : ℕ). z < 256) p (packedSize l) f (byte-at f bytes)) in
-        let e : length (packedIn f k) ≡ packedSize l = part-length p (packedSize l) f (omega (arith, track-inside k h)) in
+        let e : length (packedIn f k) ≡ packedSize l = part-length p (packedSize l) f (omega (arith, piece-within f s k h)) in
         let c = all-holds (λ j. spareClear (lengthIn f j) (packedIn f j)) (trackCountIn f) k (s .spares-clear) h in
         ap₂ (λ (x y : List ℕ). x ++ packed y) (track-held k h .0) (track-held k h .1)
         ∙ ap (λ (x : List ℕ). trackIn f k ++ x) (packed-unpacked l (packedIn f k) e b c)

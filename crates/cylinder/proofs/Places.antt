@@ -7,7 +7,7 @@ use mathlib.Core.List.{List}
 use lib.ListN.{length}
 use lib.Dec.{leb, eqb}
 use Rattle.base.proofs.Tests.{cases}
-use Rattle.format.specs.Answer.{Answer, done, lentWrong, headerWrong, offsetWrong, fileLengthWrong, spareBitsSet, bufferTooShort}
+use Rattle.format.specs.Answer.{Answer, lentWrong, headerWrong, offsetWrong, fileLengthWrong, spareBitsSet, bufferTooShort}
 use Rattle.format.specs.Judged.{Judged, good, refused, then, require, answerOf}
 use Rattle.cylinder.specs.Cylinder.{Cylinder, trackCount, trackCountRight, lengthsRight, cylinderLent}
 use Rattle.cylinder.specs.File.{headerLength, tableEnd, cylinderFile}

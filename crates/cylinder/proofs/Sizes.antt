@@ -10,7 +10,7 @@ use borrow.Author.Tests.{leb-true, eqb-true}
 use Rattle.base.specs.Indexed.{sumTo, joinTo}
 use Rattle.base.proofs.Lists.{part-length}
 use Rattle.base.proofs.Tests.{and-both}
-use Rattle.base.proofs.Indexed.{sum-next, sum-grows, sum-same, length-join, sum-const}
+use Rattle.base.proofs.Indexed.{sum-within, sum-same, length-join, sum-const}
 use Rattle.format.specs.Lent.{marksLegal}
 use Rattle.cylinder.specs.Cylinder.{Cylinder, trackCount, lengthOf, startOf, partOf, trackOf, trackMarksOf, trackCountRight, lengthsRight, cylinderLent}
 use Rattle.cylinder.specs.Packed.{packed}
@@ -37,7 +37,7 @@ pub length-entries : (n : ℕ) (l : ℕ → ℕ) (k : ℕ) → length (joinTo (e
 length-entries n l k = length-join (entry n l) k ∙ sum-same (λ j. length (entry n l j)) (λ j. entryLength) k (λ j h. length-entry n l j) ∙ sum-const entryLength k
 
 -- and so has the table.
-pub length-table : (ls : List ℕ) (n : ℕ) → length (table ls n) ≡ n * 6
+length-table : (ls : List ℕ) (n : ℕ) → length (table ls n) ≡ n * 6
 unfolding table
 length-table ls n = length-entries n (lengthOf ls) n
 
@@ -78,7 +78,7 @@ cylinder-lent c e =
 pub length-part : (ls xs : List ℕ) (k n : ℕ) → length xs ≡ startOf ls n → k < n → length (partOf ls xs k) ≡ lengthOf ls k
 unfolding partOf
 length-part ls xs k n e h =
-    part-length (startOf ls k) (lengthOf ls k) xs (omega (arith, sum-next (lengthOf ls) k, sum-grows (lengthOf ls) (k + 1) n (omega arith)))
+    part-length (startOf ls k) (lengthOf ls k) xs (omega (arith, sum-within (lengthOf ls) k n h))
 
 module _ (c : Cylinder) (lent : Lent c) where
   -- A track in the file has its bytes and its packed marks.
@@ -102,14 +102,11 @@ module _ (c : Cylinder) (lent : Lent c) where
   pub track-inside : (k : ℕ) → k < trackCount c
       → (startOf (c .lengths) k + lengthOf (c .lengths) k ≤ length (c .tracks)) × (startOf (c .lengths) k + lengthOf (c .lengths) k ≤ length (c .marks))
   track-inside k h =
-      let n = sum-next (lengthOf (c .lengths)) k in
-      let g = sum-grows (lengthOf (c .lengths)) (k + 1) (trackCount c) (omega arith) in
+      let w = sum-within (lengthOf (c .lengths)) k (trackCount c) h in
       (omega (arith, lent .tracks-long), omega (arith, lent .marks-long))
 
   -- and what it takes in the file within all that the tracks take.
   pub stored-inside : (k : ℕ) → k < trackCount c
       → sumTo (λ j. storedSize (lengthOf (c .lengths) j)) k + storedSize (lengthOf (c .lengths) k) ≤ length (storedTracks c)
   unfolding storedTracks
-  stored-inside k h =
-      let f : ℕ → ℕ = λ j. storedSize (lengthOf (c .lengths) j) in
-      omega (arith, sum-next f k, sum-grows f (k + 1) (trackCount c) (omega arith), length-joined (trackCount c) (omega arith))
+  stored-inside k h = omega (arith, sum-within (λ j. storedSize (lengthOf (c .lengths) j)) k (trackCount c) h, length-joined (trackCount c) (omega arith))

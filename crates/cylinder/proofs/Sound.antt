@@ -9,7 +9,7 @@ use lib.Dec.{leb, eqb}
 use borrow.Author.Tests.{leb-true, le-leb, eqb-true, eq-eqb}
 use Rattle.base.specs.Indexed.{sumTo}
 use Rattle.base.proofs.Tests.{and-both}
-use Rattle.base.proofs.Indexed.{sum-next, sum-grows, all-holds}
+use Rattle.base.proofs.Indexed.{sum-next, sum-within, all-holds}
 use Rattle.format.specs.Answer.{lentWrong, headerWrong, offsetWrong, fileLengthWrong, spareBitsSet}
 use Rattle.format.specs.Judged.{good}
 use Rattle.format.specs.Lent.{lengthRight}
@@ -75,11 +75,6 @@ pub offset-next : (n : ℕ) (l : ℕ → ℕ) (k : ℕ) → offsetOf n l (k + 1)
 unfolding offsetOf
 offset-next n l k = omega (arith, sum-next (λ j. storedSize (l j)) k)
 
--- No track is due behind a later one.
-pub offset-grows : (n : ℕ) (l : ℕ → ℕ) (k j : ℕ) → k ≤ j → offsetOf n l k ≤ offsetOf n l j
-unfolding offsetOf
-offset-grows n l k j h = omega (arith, sum-grows (λ i. storedSize (l i)) k j h)
-
 -- The first track of a file is due right behind the table,
 pub due-first : (f : List ℕ) → offsetDue f 0 ≡ tableEnd (trackCountIn f)
 unfolding offsetDue offsetOf sumTo
@@ -90,7 +85,11 @@ pub due-next : (f : List ℕ) (k : ℕ) → offsetDue f (k + 1) ≡ offsetDue f 
 unfolding offsetDue
 due-next f k = offset-next (trackCountIn f) (lengthIn f) k
 
--- and none reaches behind where a later one is due.
+-- and none reaches behind where a later one is due,
 pub due-within : (f : List ℕ) (n k : ℕ) → k < n → offsetDue f k + lengthIn f k + packedSize (lengthIn f k) ≤ offsetDue f n
-unfolding offsetDue
-due-within f n k h = omega (arith, offset-next (trackCountIn f) (lengthIn f) k, offset-grows (trackCountIn f) (lengthIn f) (k + 1) n (omega arith))
+unfolding offsetDue offsetOf
+due-within f n k h = omega (arith, sum-within (λ j. storedSize (lengthIn f j)) k n h)
+
+-- so that each track of a sound file lies in it, and its packed marks do.
+pub piece-within : (f : List ℕ) → SoundFile f → (k : ℕ) → k < trackCountIn f → offsetDue f k + lengthIn f k + packedSize (lengthIn f k) ≤ length f
+piece-within f s k h = omega (arith, s .length-due, due-within f (trackCountIn f) k h)

@@ -4,23 +4,22 @@ use Prim.Native.Nat.{ℕ, _+_, _*_, _/_, _%_, _≤_, _<_}
 use native.Mathlib.Omega.{arith}
 use mathlib.Core.Bool.{true}
 use mathlib.Core.List.{List, [], _++_, append-assoc, append-nil}
-use lib.ListN.{length, take, drop, getD, length-append}
-use lib.Seq.{take-all, take-at, drop-at, drop-drop}
+use lib.ListN.{length, take, drop, getD}
+use lib.Seq.{take-at, drop-at, drop-drop}
 use borrow.Author.Tests.{eq-eqb}
 use Rattle.base.specs.Indexed.{sumTo, joinTo}
-use Rattle.base.proofs.Indexed.{sum-same, all-same, each-holds, join-part, join-same, join-cut, list-is}
+use Rattle.base.proofs.Indexed.{sum-same, all-same, each-holds, join-part, join-same, list-is}
 use Rattle.base.proofs.Tests.{and-make}
-use Rattle.format.specs.Lent.{lengthRight, marksLegal}
-use Rattle.format.proofs.Base.Marks.{mark-at, marks-at}
-use Rattle.cylinder.specs.Cylinder.{Cylinder, trackCount, lengthOf, startOf, partOf, trackOf, trackMarksOf, trackCountRight, lengthsRight, cylinderLent}
+use Rattle.format.specs.Lent.{lengthRight}
+use Rattle.cylinder.specs.Cylinder.{Cylinder, trackCount, lengthOf, trackOf, trackMarksOf, trackCountRight, lengthsRight, cylinderLent}
 use Rattle.cylinder.specs.Packed.{packedSize, packed, unpacked, spareClear}
 use Rattle.cylinder.specs.File.{twoBytes, fourBytes, headerLength, entryLength, tableEnd, storedSize, offsetOf, header, entry, table, storedTrack, storedTracks, cylinderFile}
 use Rattle.cylinder.specs.Reading.{twoBytesAt, fourBytesAt, trackCountIn, zeroField, lengthIn, offsetIn, offsetDue, trackIn, packedIn, marksIn, headerRight, offsetsRight, sparesClear, cylinderIn}
 use Rattle.cylinder.proofs.Sound.{SoundFile}
-use Rattle.cylinder.proofs.Sizes.{Lent, cylinder-lent, length-header, length-entry, length-entries, length-table, length-part, length-stored, length-joined, length-file}
+use Rattle.cylinder.proofs.Sizes.{Lent, cylinder-lent, length-header, length-entry, length-entries, length-front, length-part, length-stored, length-joined, length-file}
 use Rattle.cylinder.proofs.Packed.{unpacked-packed, spare-packed}
 use Rattle.cylinder.proofs.CylinderParts.{legal-part, joined-tracks}
-use Rattle.cylinder.proofs.Parts.{part-at, part-keeps, part-first, part-second}
+use Rattle.cylinder.proofs.Parts.{part-at, part-first, part-second}
 
 -- The two bytes of a number, read again.
 two-read : (f : List ℕ) (p x : ℕ) → getD f p 0 ≡ x / 256 → getD f (p + 1) 0 ≡ x % 256 → twoBytesAt f p ≡ x
@@ -54,7 +53,7 @@ module _ (c : Cylinder) where
   unfolding cylinderFile
   behind-table =
       drop-at (header (trackCount c) ++ table (c .lengths) (trackCount c)) (storedTracks c) (tableEnd (trackCount c))
-      (length-append (header (trackCount c)) (table (c .lengths) (trackCount c)) ∙ omega (arith, length-header (trackCount c), length-table (c .lengths) (trackCount c)))
+      (length-front c)
 
   -- The header stands at the file's start.
   header-part : take headerLength (cylinderFile c) ≡ header (trackCount c)

@@ -1,33 +1,17 @@
--- Lists that are written element by element, or the eight bits of a byte at a time.
+-- Marks that are written the eight bits of a byte at a time.
 use mathlib.Core.Path.{_≡_, refl, sym, ap, _∙_}
 use Prim.Native.Nat.{ℕ, zero, suc, _+_, _*_, _<_}
-use native.Mathlib.Nat.{add-zero}
 use native.Mathlib.Omega.{arith}
-use mathlib.Core.List.{List, [], _∷_, _++_, append-nil, append-assoc}
-use lib.ListN.{length, set, getD}
-use Rattle.base.specs.Indexed.{joinTo, listTo}
+use mathlib.Core.List.{List, _++_}
+use lib.ListN.{getD}
+use Rattle.base.specs.Indexed.{listTo}
 use Rattle.base.specs.Laid.{laidOver, laidAt}
-use Rattle.base.proofs.Indexed.{join-next, length-list, list-is}
-use Rattle.base.proofs.Laid.{laid-one, over-next}
+use Rattle.base.proofs.Indexed.{list-is}
+use Rattle.base.proofs.Laid.{over-next}
+use Rattle.base.proofs.Filling.{list-append}
 use Rattle.cylinder.specs.Packed.{bitOf, markAt, unpacked}
 use Rattle.cylinder.proofs.Packed.{length-unpacked, mark-in}
 use Rattle.cylinder_file.specs.Bits.{bitsOf}
-
--- The next element is stored behind the first i, which lie over the front.
-pub list-store : (f : ℕ → ℕ) (i b : ℕ) (old new : List ℕ) → i < length new → new ≡ laidOver (listTo f i) old → b ≡ f i → set new i b ≡ laidOver (listTo f (i + 1)) old
-list-store f i b old new h e q =
-    over-next i (listTo f i) (b ∷ []) old new (set new i b) (sym (length-list f i)) e (laid-one i b new h)
-    ∙ ap (λ (l : List ℕ). laidOver l old) (ap (λ (v : ℕ). listTo f i ++ v ∷ []) q ∙ sym (join-next (λ k. f k ∷ []) i))
-
--- The first n + k elements are the first n and then k more.
-list-append : (f : ℕ → ℕ) (n k : ℕ) → listTo f (n + k) ≡ listTo f n ++ listTo (λ j. f (n + j)) k
-unfolding joinTo
-list-append f n zero = rw add-zero (sym (append-nil (listTo f n)))
-list-append f n (suc k) =
-    let e : n + suc k ≡ n + k + 1 = omega arith in
-    ap (listTo f) e
-    ∙ join-next (λ j. f j ∷ []) (n + k)
-    ∙ rw (list-append f n k) (append-assoc (listTo f n) (listTo (λ j. f (n + j)) k) (f (n + k) ∷ []))
 
 -- Bit k of a byte is the element at k of its eight bits.
 getD-bits : (x k : ℕ) → k < 8 → bitOf x k ≡ getD (bitsOf x) k 0

@@ -6,8 +6,8 @@ use borrow.Author.Needs.{needs}
 use lib.ListN.{length, length-set}
 use Rattle.base.specs.Indexed.{joinTo, listTo}
 use Rattle.base.specs.Laid.{laidOver}
+use Rattle.base.proofs.Filling.{list-store}
 use Rattle.cylinder.specs.Packed.{packedSize, octetAt, packed}
-use Rattle.cylinder_file.proofs.Marks.{list-store}
 use Rattle.cylinder_file.proofs.packing.pack.Statement.{statement}
 use Rattle.cylinder_file.proofs.packing.pack.Tie as tie
 

@@ -6,8 +6,8 @@ use mathlib.Core.List.{List}
 use borrow.Author.Needs.{needs}
 use lib.ListN.{length, length-set}
 use Rattle.base.specs.Laid.{laidOver}
+use Rattle.base.proofs.Filling.{list-store}
 use Rattle.cylinder.specs.Packed.{markAt, unpacked}
-use Rattle.cylinder_file.proofs.Marks.{list-store}
 use Rattle.cylinder_file.proofs.packing.unpack.Statement.{statement}
 use Rattle.cylinder_file.proofs.packing.unpack.Tie as tie
 

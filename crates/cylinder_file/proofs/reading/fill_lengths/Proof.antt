@@ -1,13 +1,13 @@
 -- `fill_lengths` meets its contract: the Ls of the tracks passed are written.
-use mathlib.Core.Path.{_≡_, refl}
+use mathlib.Core.Path.{_≡_, refl, _∙_}
 use Prim.Native.Nat.{_-_, _≤_}
 use native.Mathlib.Omega.{arith}
 use borrow.Author.Needs.{needs}
-use lib.ListN.{length}
+use lib.ListN.{length, length-set}
 use Rattle.base.specs.Indexed.{joinTo, listTo}
 use Rattle.base.specs.Laid.{laidOver}
+use Rattle.base.proofs.Filling.{list-store}
 use Rattle.cylinder.specs.Reading.{lengthIn}
-use Rattle.cylinder_file.proofs.Pieces.{list-more}
 use Rattle.cylinder_file.proofs.reading.fill_lengths.Statement.{statement}
 use Rattle.cylinder_file.proofs.reading.fill_lengths.Tie as tie
 
@@ -44,9 +44,11 @@ loop-less c = search needs
 loop-again : tie.Need-loop-again Inv-loop μ-loop
 loop-again c =
     let a = c .before .before .before .before .before .args in
-    let l = c .before .before .loop in
-    let m = list-more (lengthIn (a .file .now)) (l .i) (c .length-in .result) (a .lengths .now) (l .lengths) (c .length-in .ensures .0) (omega arith) (l .inv .1) (l .inv .2) in
-    (omega arith, m .0, m .1)
+    let l = c .before .before .loop in (
+      omega arith,
+      length-set (l .lengths) (l .i) (c .length-in .result) ∙ l .inv .1,
+      list-store (lengthIn (a .file .now)) (l .i) (c .length-in .result) (a .lengths .now) (l .lengths) (omega arith) (l .inv .2) (c .length-in .ensures .0),
+    )
 
 same-length : tie.Need-same-length Inv-loop μ-loop
 same-length c = c .before .loop .inv .1

@@ -8,10 +8,12 @@ use lib.ListN.{length, take, drop}
 use Rattle.base.specs.Indexed.{sumTo, joinTo}
 use Rattle.base.specs.Laid.{laidOver}
 use Rattle.base.proofs.Indexed.{sum-next}
+use Rattle.base.proofs.Filling.{fill-more}
 use Rattle.base.proofs.Lists.{cut-length, part-all-length}
 use Rattle.cylinder.specs.Reading.{lengthIn, offsetDue, marksIn}
 use Rattle.cylinder.proofs.Sound.{due-first, due-next}
-use Rattle.cylinder_file.proofs.Pieces.{table-in, piece-in, length-marks, marks-cut, fill-more}
+use Rattle.cylinder.proofs.HeldCylinder.{length-marks}
+use Rattle.cylinder_file.proofs.Pieces.{table-in, piece-in, marks-cut}
 use Rattle.cylinder_file.proofs.reading.fill_marks.Statement.{statement}
 use Rattle.cylinder_file.proofs.reading.fill_marks.Tie as tie
 

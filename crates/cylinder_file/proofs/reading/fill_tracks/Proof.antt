@@ -7,10 +7,12 @@ use lib.ListN.{length, take, drop}
 use Rattle.base.specs.Indexed.{sumTo, joinTo}
 use Rattle.base.specs.Laid.{laidOver}
 use Rattle.base.proofs.Indexed.{sum-next}
+use Rattle.base.proofs.Filling.{copy-over, fill-more}
 use Rattle.base.proofs.Lists.{cut-length, part-all-length}
 use Rattle.cylinder.specs.Reading.{lengthIn, offsetDue, trackIn}
-use Rattle.cylinder.proofs.Sound.{due-first, due-next}
-use Rattle.cylinder_file.proofs.Pieces.{table-in, piece-in, track-cut, length-track, copy-over, fill-more}
+use Rattle.cylinder.proofs.Sound.{file-sound, due-first, due-next}
+use Rattle.cylinder.proofs.HeldCylinder.{length-track}
+use Rattle.cylinder_file.proofs.Pieces.{table-in, piece-in, track-cut}
 use Rattle.cylinder_file.proofs.reading.fill_tracks.Statement.{statement}
 use Rattle.cylinder_file.proofs.reading.fill_tracks.Tie as tie
 
@@ -117,7 +119,7 @@ loop-again c =
     let p = c .before .before .before .before .before .before .before .before .before .before .before .pre in
     let h = piece-in f (a .n) (l .i) (p .0) (p .1 .0) (omega arith) in
     let w = copy-over _ (trackIn f (l .i)) (take (length (l .tracks) - l .at) (drop (l .at) (l .tracks))) _ (track-cut f (l .i) (l .place) (n .result) (l .inv .1) (n .ensures .0)) (c .before .before .before .copy .ensures .1) in
-    let m = fill-more (trackIn f) (lengthIn f) (l .i) (l .at) (a .tracks .now) (l .tracks) (c .before .before .before .copy .last .1 .0) (l .inv .2) (λ j b. length-track f (a .n) j (p .0) (p .1 .0) (omega arith)) (omega (arith, p .1 .1)) (l .inv .4) w in (
+    let m = fill-more (trackIn f) (lengthIn f) (l .i) (l .at) (a .tracks .now) (l .tracks) (c .before .before .before .copy .last .1 .0) (l .inv .2) (λ j b. length-track f (file-sound f (p .1 .0)) j (omega (arith, p .0))) (omega (arith, p .1 .1)) (l .inv .4) w in (
       omega arith,
       omega (arith, due-next f (l .i), n .ensures .0, c .packed-size .ensures .0),
       omega (arith, sum-next (lengthIn f) (l .i), n .ensures .0),

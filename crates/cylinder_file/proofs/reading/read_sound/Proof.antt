@@ -3,11 +3,12 @@ use mathlib.Core.Path.{refl, sym, _∙_}
 use borrow.Author.Needs.{needs}
 use borrow.Author.Tests.{not-true, not-false}
 use lib.ListN.{length}
+use Rattle.base.proofs.Filling.{over-nothing}
 use Rattle.base.proofs.Indexed.{length-list}
 use Rattle.cylinder.specs.Reading.{lengthIn}
 use Rattle.cylinder.proofs.Sound.{file-sound}
 use Rattle.cylinder_file.specs.Reading.{room}
-use Rattle.cylinder_file.proofs.Pieces.{count-is, table-in, over-nothing, room-enough, read-short, read-good}
+use Rattle.cylinder_file.proofs.Pieces.{count-is, table-in, room-enough, read-short, read-good}
 use Rattle.cylinder_file.proofs.reading.read_sound.Statement.{statement}
 use Rattle.cylinder_file.proofs.reading.read_sound.Tie as tie
 

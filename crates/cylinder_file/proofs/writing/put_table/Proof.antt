@@ -3,21 +3,22 @@ use mathlib.Core.Path.{_≡_, refl, sym, ap, _∙_}
 use Prim.Native.Nat.{ℕ, _-_, _+_, _*_, _≤_}
 use native.Mathlib.Omega.{arith}
 use mathlib.Core.List.{List, _++_}
-use lib.ListN.{length}
+use lib.ListN.{length, take, drop}
 use Rattle.base.specs.Laid.{laidOver}
 use Rattle.base.specs.Indexed.{sumTo, joinTo}
 use Rattle.base.proofs.Lists.{part-all-length}
-use Rattle.base.proofs.Laid.{laid-back, over-next, length-over}
-use Rattle.base.proofs.Indexed.{join-next}
+use Rattle.base.proofs.Indexed.{sum-const}
+use Rattle.base.proofs.Filling.{fill-more}
 use Rattle.cylinder.specs.Cylinder.{lengthOf}
 use Rattle.cylinder.specs.Packed.{packedSize}
 use Rattle.cylinder.specs.File.{twoBytes, fourBytes, offsetOf, entry, table}
 use Rattle.cylinder.proofs.Sound.{offset-next}
-use Rattle.cylinder.proofs.Sizes.{length-entries}
+use Rattle.cylinder.proofs.Sizes.{length-entry}
 use borrow.Author.Needs.{needs}
 use Rattle.cylinder_file.proofs.writing.put_table.Statement.{statement}
 use Rattle.cylinder_file.proofs.writing.put_table.Tie as tie
 
+-- What holds at each turn: the first i entries lie over the front, and track i is due at the place.
 abbrev Inv-loop : tie.InvT-loop
 Inv-loop lengths out₀ place₀ p₀ i₀ out place p i =
     (i ≤ length lengths)
@@ -27,6 +28,7 @@ Inv-loop lengths out₀ place₀ p₀ i₀ out place p i =
     × (length out ≡ length out₀)
     × (out ≡ laidOver (joinTo (entry (length lengths) (lengthOf lengths)) i) out₀)
 
+-- What falls with each turn: the number of tracks left.
 abbrev μ-loop : tie.MeasureT-loop
 μ-loop lengths out₀ place₀ p₀ i₀ out place p i = length lengths - i
 
@@ -59,7 +61,10 @@ part-put-entry-end : tie.Need-part-put-entry-end Inv-loop μ-loop
 part-put-entry-end c = search needs
 
 put-entry-requires : tie.Need-put-entry-requires Inv-loop μ-loop
-put-entry-requires c κs = let z = part-all-length (c .before .before .before .before .loop .p) (c .before .before .before .before .loop .out) in search needs
+put-entry-requires c κs =
+    let l = c .before .before .before .before .loop in
+    let z = part-all-length (l .p) (l .out) in
+    search needs
 
 add-place-2 : tie.Need-add-place-2 Inv-loop μ-loop
 add-place-2 c = search needs
@@ -82,8 +87,9 @@ loop-less c = search needs
 loop-again : tie.Need-loop-again Inv-loop μ-loop
 unfolding entry
 loop-again c =
-    let ls = c .before .before .before .before .before .before .before .before .before .before .before .args .lengths .now in
-    let old = c .before .before .before .before .before .before .before .before .before .before .before .args .out .now in
+    let a = c .before .before .before .before .before .before .before .before .before .before .before .args in
+    let ls = a .lengths .now in
+    let old = a .out .now in
     let l = c .before .before .before .before .before .before .before .before .loop in
     let w = c .before .before .before .before .before .wide in
     let put = c .before .before .before .put-entry in
@@ -91,12 +97,9 @@ loop-again c =
     let e : w .result ≡ lengthOf ls (l .i) = w .ensures .0 in
     let s : c .packed-size .result ≡ packedSize (lengthOf ls (l .i)) = c .packed-size .ensures .0 ∙ ap packedSize e in
     let q : twoBytes (w .result) ++ fourBytes (l .place) ≡ f (l .i) = rw (e, l .inv .2) in
-    let b = laid-back (l .p) (twoBytes (w .result) ++ fourBytes (l .place)) (l .out) (put .last .1 .1 .0) (put .ensures) in
-    let k : l .p ≡ length (joinTo f (l .i)) = omega (arith, length-entries (length ls) (lengthOf ls) (l .i)) in
-    let x = over-next (l .p) (joinTo f (l .i)) (twoBytes (w .result) ++ fourBytes (l .place)) old (l .out) _ k (l .inv .5) b
-    ∙ ap (λ (y : List ℕ). laidOver y old) (ap (λ (y : List ℕ). joinTo f (l .i) ++ y) q ∙ sym (join-next f (l .i))) in
-    let n = ap length x ∙ length-over (joinTo f (l .i + 1)) old (omega (arith, length-entries (length ls) (lengthOf ls) (l .i + 1))) in
-    (omega arith, omega arith, omega (arith, offset-next (length ls) (lengthOf ls) (l .i)), omega (arith, c .packed-size .ensures .1), n, x)
+    let x = fill-more f (λ j. 6) (l .i) (l .p) old (l .out) (put .last .1 .1 .0) (l .inv .1 ∙ sym (sum-const 6 (l .i))) (λ j b. length-entry (length ls) (lengthOf ls) j)
+    (omega arith) (l .inv .5) (put .ensures ∙ ap (λ (y : List ℕ). laidOver y (take (length (l .out) - l .p) (drop (l .p) (l .out)))) q) in
+    (omega arith, omega arith, omega (arith, offset-next (length ls) (lengthOf ls) (l .i)), omega (arith, c .packed-size .ensures .1), x .0, x .1)
 
 same-length : tie.Need-same-length Inv-loop μ-loop
 same-length c = search needs
@@ -104,8 +107,11 @@ same-length c = search needs
 returns : tie.Need-returns Inv-loop μ-loop
 unfolding table
 returns c =
-    let n : c .before .loop .i ≡ length (c .before .before .before .before .args .lengths .now) = omega arith in
-    c .before .loop .inv .5 ∙ ap (λ (i : ℕ). laidOver (joinTo (entry (length (c .before .before .before .before .args .lengths .now)) (lengthOf (c .before .before .before .before .args .lengths .now))) i) (c .before .before .before .before .args .out .now)) n
+    let a = c .before .before .before .before .args in
+    let ls = a .lengths .now in
+    let l = c .before .loop in
+    let n : l .i ≡ length ls = omega arith in
+    l .inv .5 ∙ ap (λ (i : ℕ). laidOver (joinTo (entry (length ls) (lengthOf ls)) i) (a .out .now)) n
 
 pub put-table-spec : {M : Type 1} → statement M
 put-table-spec =

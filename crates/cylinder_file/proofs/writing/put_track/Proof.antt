@@ -1,12 +1,7 @@
 -- `put_track` meets its contract: the bytes of the track, and its packed marks behind them.
-use mathlib.Core.Path.{ap, _∙_}
-use mathlib.Core.List.{List, _++_}
-use Prim.Native.Nat.{ℕ}
-use native.Mathlib.Omega.{arith}
-use lib.ListN.{length, drop}
-use lib.Seq.{take-all}
-use Rattle.base.specs.Laid.{laidOver}
+use mathlib.Core.Path.{refl}
 use Rattle.base.proofs.Laid.{laid-back, over-next}
+use Rattle.base.proofs.Filling.{copy-over}
 use Rattle.cylinder.specs.Packed.{packed}
 use borrow.Author.Needs.{needs}
 use Rattle.cylinder_file.proofs.writing.put_track.Statement.{statement}
@@ -31,13 +26,12 @@ same-length : tie.Need-same-length
 same-length c = search needs
 
 returns : tie.Need-returns
-unfolding laidOver
 returns c =
     let a = c .before .before .before .before .before .before .before .before .before .before .before .args in
     let t = a .track .now in
     let old = a .out .now in
     let copied = c .before .before .before .before .before .before .copy in
-    let e = copied .ensures .1 ∙ ap (λ (x : List ℕ). x ++ drop (length t) old) (take-all (length t) t (omega arith)) in
+    let e = copy-over t t old (copied .last .1 .0) refl (copied .ensures .1) in
     let b = laid-back (copied .result) (packed (a .marks .now)) (copied .last .1 .0) (c .before .before .pack .last .1 .0) (c .before .before .pack .ensures) in
     over-next (copied .result) t (packed (a .marks .now)) old (copied .last .1 .0) _ (copied .ensures .0) e b
 
