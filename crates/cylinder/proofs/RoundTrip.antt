@@ -29,7 +29,7 @@ abbrev pub RoomFor : Cylinder → Room → Type 0
 RoomFor c r = (length (c .tracks) ≤ r .tracks) × (length (c .marks) ≤ r .marks) × (length (c .lengths) ≤ r .lengths)
 
 -- What is written of a cylinder that is lent within the rule is its file,
-lent-write : (c : Cylinder) (room : ℕ) → trackCountRight (trackCount c) ≡ true → cylinderLent c ≡ true → length (cylinderFile c) ≤ room → writeCylinder c room ≡ good (cylinderFile c)
+pub lent-write : (c : Cylinder) (room : ℕ) → trackCountRight (trackCount c) ≡ true → cylinderLent c ≡ true → length (cylinderFile c) ≤ room → writeCylinder c room ≡ good (cylinderFile c)
 unfolding writeCylinder
 lent-write c room n e h = rw (n, e, le-leb (length (cylinderFile c)) room h)
 

@@ -1,8 +1,8 @@
--- Laws of reading: where the pieces of a sound file lie, and what is answered.
+-- Laws of reading: where the pieces of a sound file lie, and the room that they take.
 use mathlib.Core.Path.{_≡_, refl, _∙_}
 use Prim.Native.Nat.{ℕ, _+_, _-_, _≤_, _<_}
 use native.Mathlib.Omega.{arith}
-use mathlib.Core.Bool.{true, false, _&&_}
+use mathlib.Core.Bool.{true, _&&_}
 use mathlib.Core.List.{List}
 use lib.ListN.{length, take, drop}
 use lib.Dec.{leb}
@@ -11,11 +11,10 @@ use Rattle.base.specs.Indexed.{sumTo}
 use Rattle.base.proofs.Tests.{and-both}
 use Rattle.base.proofs.Indexed.{sum-within}
 use Rattle.base.proofs.Lists.{cut-is}
-use Rattle.format.specs.Answer.{Answer, bufferTooShort}
-use Rattle.format.specs.Judged.{good, refused}
+use Rattle.format.specs.Judged.{good}
 use Rattle.cylinder.specs.File.{tableEnd}
 use Rattle.cylinder.specs.Packed.{packedSize, unpacked, spareClear}
-use Rattle.cylinder.specs.Reading.{twoBytesAt, trackCountIn, lengthIn, offsetDue, trackIn, packedIn, marksIn, headerRight, judgeFile, cylinderIn, Room, roomFor, readCylinder}
+use Rattle.cylinder.specs.Reading.{twoBytesAt, trackCountIn, lengthIn, offsetDue, trackIn, packedIn, marksIn, headerRight, judgeFile, Room, roomFor}
 use Rattle.cylinder.proofs.Sound.{file-sound, header-count, piece-within}
 
 -- The first two bytes of a file name the number of its tracks.
@@ -65,18 +64,3 @@ room-enough f n r e h =
     let a = and-both (leb s (r .tracks)) (leb s (r .marks) && leb n (r .lengths)) (rw (← e) at h) in
     let b = and-both (leb s (r .marks)) (leb n (r .lengths)) (a .1) in
     (leb-true _ _ (a .0), leb-true _ _ (b .0), leb-true _ _ (b .1))
-
--- A file that is refused by itself is refused when it is read,
-pub read-refused : (f : List ℕ) (r : Room) (a : Answer) → judgeFile f ≡ refused a → readCylinder f r ≡ refused a
-unfolding readCylinder
-read-refused f r a s = rw s
-
--- a sound one by 24 where the room is not enough,
-pub read-short : (f : List ℕ) (r : Room) → judgeFile f ≡ good tt → roomFor f r ≡ false → readCylinder f r ≡ refused bufferTooShort
-unfolding readCylinder
-read-short f r s e = rw (s, e)
-
--- and where it is the cylinder is read.
-pub read-good : (f : List ℕ) (r : Room) → judgeFile f ≡ good tt → roomFor f r ≡ true → readCylinder f r ≡ good (cylinderIn f)
-unfolding readCylinder
-read-good f r s e = rw (s, e)

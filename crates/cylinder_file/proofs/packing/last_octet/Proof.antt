@@ -70,21 +70,5 @@ returns c =
 pub last-octet-spec : {M : Type 1} → statement M
 last-octet-spec =
     tie.close
-    (tie.spec
-    mark-or-zero-requires
-    add-mark-or-zero
-    mark-or-zero-requires-2
-    add-mark-or-zero-2
-    mark-or-zero-requires-3
-    add-mark-or-zero-3
-    mark-or-zero-requires-4
-    add-mark-or-zero-4
-    mark-or-zero-requires-5
-    add-mark-or-zero-5
-    mark-or-zero-requires-6
-    add-mark-or-zero-6
-    mark-or-zero-requires-7
-    add-mark-or-zero-7
-    mark-or-zero-requires-8
-    octet-of-requires
-    returns)
+    (tie.spec mark-or-zero-requires add-mark-or-zero mark-or-zero-requires-2 add-mark-or-zero-2 mark-or-zero-requires-3 add-mark-or-zero-3 mark-or-zero-requires-4 add-mark-or-zero-4
+    mark-or-zero-requires-5 add-mark-or-zero-5 mark-or-zero-requires-6 add-mark-or-zero-6 mark-or-zero-requires-7 add-mark-or-zero-7 mark-or-zero-requires-8 octet-of-requires returns)

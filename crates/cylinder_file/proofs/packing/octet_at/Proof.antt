@@ -68,24 +68,6 @@ returns-2 c = c .octet-of .ensures
 pub octet-at-spec : {M : Type 1} → statement M
 octet-at-spec =
     tie.close
-    (tie.spec
-    add-if1
-    last-octet-requires
-    returns
-    shared-slice-read-octet-of
-    add-octet-of
-    shared-slice-read-octet-of-2
-    add-octet-of-2
-    shared-slice-read-octet-of-3
-    add-octet-of-3
-    shared-slice-read-octet-of-4
-    add-octet-of-4
-    shared-slice-read-octet-of-5
-    add-octet-of-5
-    shared-slice-read-octet-of-6
-    add-octet-of-6
-    shared-slice-read-octet-of-7
-    add-octet-of-7
-    shared-slice-read-octet-of-8
-    octet-of-requires
-    returns-2)
+    (tie.spec add-if1 last-octet-requires returns shared-slice-read-octet-of add-octet-of shared-slice-read-octet-of-2 add-octet-of-2 shared-slice-read-octet-of-3 add-octet-of-3
+    shared-slice-read-octet-of-4 add-octet-of-4 shared-slice-read-octet-of-5 add-octet-of-5 shared-slice-read-octet-of-6 add-octet-of-6 shared-slice-read-octet-of-7 add-octet-of-7
+    shared-slice-read-octet-of-8 octet-of-requires returns-2)

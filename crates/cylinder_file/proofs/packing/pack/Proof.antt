@@ -65,16 +65,4 @@ returns c =
 pub pack-spec : {M : Type 1} → statement M
 pack-spec =
     tie.close
-    (tie.spec
-    Inv-loop
-    μ-loop
-    packed-size-requires
-    loop-holds
-    mul-octet-at
-    octet-at-requires
-    slice-write-out
-    add-i
-    loop-less
-    loop-again
-    same-length
-    returns)
+    (tie.spec Inv-loop μ-loop packed-size-requires loop-holds mul-octet-at octet-at-requires slice-write-out add-i loop-less loop-again same-length returns)

@@ -65,15 +65,4 @@ returns-2 c =
 pub spare-clear-spec : {M : Type 1} → statement M
 spare-clear-spec =
     tie.close
-    (tie.spec
-    Inv-loop
-    μ-loop
-    mul-n
-    loop-holds
-    shared-slice-read-bit-of
-    bit-of-requires
-    returns
-    add-i
-    loop-less
-    loop-again
-    returns-2)
+    (tie.spec Inv-loop μ-loop mul-n loop-holds shared-slice-read-bit-of bit-of-requires returns add-i loop-less loop-again returns-2)

@@ -67,17 +67,4 @@ returns c =
 pub unpack-spec : {M : Type 1} → statement M
 unpack-spec =
     tie.close
-    (tie.spec
-    Inv-loop
-    μ-loop
-    unpack-whole-requires
-    mul-i
-    loop-holds
-    shared-slice-read-bit-of
-    bit-of-requires
-    slice-write-out
-    add-i
-    loop-less
-    loop-again
-    same-length
-    returns)
+    (tie.spec Inv-loop μ-loop unpack-whole-requires mul-i loop-holds shared-slice-read-bit-of bit-of-requires slice-write-out add-i loop-less loop-again same-length returns)

@@ -70,18 +70,4 @@ returns c =
 pub unpack-whole-spec : {M : Type 1} → statement M
 unpack-whole-spec =
     tie.close
-    (tie.spec
-    Inv-loop
-    μ-loop
-    loop-holds
-    shared-slice-read-put-bits
-    sub-put-bits
-    part-put-bits-start
-    part-put-bits-end
-    put-bits-requires
-    add-p
-    add-i
-    loop-less
-    loop-again
-    same-length
-    returns)
+    (tie.spec Inv-loop μ-loop loop-holds shared-slice-read-put-bits sub-put-bits part-put-bits-start part-put-bits-end put-bits-requires add-p add-i loop-less loop-again same-length returns)

@@ -144,4 +144,5 @@ returns c =
 pub fill-marks-spec : {M : Type 1} → statement M
 fill-marks-spec =
     tie.close
-    (tie.spec Inv-loop μ-loop mul-place add-place loop-holds length-in-requires add-from packed-size-requires add-to sub-unpack part-unpack-start part-unpack-end sub-unpack-2 part-unpack-start-2 part-unpack-end-2 unpack-requires add-at add-i loop-less loop-again same-length returns)
+    (tie.spec Inv-loop μ-loop mul-place add-place loop-holds length-in-requires add-from packed-size-requires add-to sub-unpack part-unpack-start part-unpack-end sub-unpack-2
+    part-unpack-start-2 part-unpack-end-2 unpack-requires add-at add-i loop-less loop-again same-length returns)

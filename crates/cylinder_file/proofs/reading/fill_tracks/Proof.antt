@@ -139,4 +139,5 @@ returns c =
 pub fill-tracks-spec : {M : Type 1} → statement M
 fill-tracks-spec =
     tie.close
-    (tie.spec Inv-loop μ-loop mul-place add-place loop-holds length-in-requires add-to sub-copy part-copy-start part-copy-end sub-copy-2 part-copy-start-2 part-copy-end-2 copy-requires packed-size-requires add-place-2 add-at add-i loop-less loop-again same-length returns)
+    (tie.spec Inv-loop μ-loop mul-place add-place loop-holds length-in-requires add-to sub-copy part-copy-start part-copy-end sub-copy-2 part-copy-start-2 part-copy-end-2 copy-requires
+    packed-size-requires add-place-2 add-at add-i loop-less loop-again same-length returns)

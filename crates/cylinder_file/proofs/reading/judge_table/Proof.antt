@@ -105,4 +105,5 @@ returns-6 c =
 pub judge-table-spec : {M : Type 1} → statement M
 judge-table-spec =
     tie.close
-    (tie.spec mul-if1 add-if1 file-length-wrong-requires returns lengths-right-requires lent-wrong-requires returns-2 offsets-right-requires offset-wrong-requires returns-3 length-due-requires file-length-wrong-requires-2 returns-4 spares-clear-requires spare-bits-set-requires returns-5 returns-6)
+    (tie.spec mul-if1 add-if1 file-length-wrong-requires returns lengths-right-requires lent-wrong-requires returns-2 offsets-right-requires offset-wrong-requires returns-3
+    length-due-requires file-length-wrong-requires-2 returns-4 spares-clear-requires spare-bits-set-requires returns-5 returns-6)

@@ -4,7 +4,7 @@ use borrow.Author.Needs.{needs}
 use lib.ListN.{length}
 use Rattle.base.proofs.Filling.{over-nothing}
 use Rattle.cylinder_file.specs.Reading.{room}
-use Rattle.cylinder_file.proofs.Pieces.{read-refused}
+use Rattle.cylinder_file.proofs.Outcome.{read-refused}
 use Rattle.cylinder_file.proofs.reading.read_cylinder.Statement.{statement}
 use Rattle.cylinder_file.proofs.reading.read_cylinder.Tie as tie
 

@@ -8,7 +8,8 @@ use Rattle.base.proofs.Indexed.{length-list}
 use Rattle.cylinder.specs.Reading.{lengthIn}
 use Rattle.cylinder.proofs.Sound.{file-sound}
 use Rattle.cylinder_file.specs.Reading.{room}
-use Rattle.cylinder_file.proofs.Pieces.{count-is, table-in, room-enough, read-short, read-good}
+use Rattle.cylinder_file.proofs.Pieces.{count-is, table-in, room-enough}
+use Rattle.cylinder_file.proofs.Outcome.{read-short, read-good}
 use Rattle.cylinder_file.proofs.reading.read_sound.Statement.{statement}
 use Rattle.cylinder_file.proofs.reading.read_sound.Tie as tie
 
@@ -92,4 +93,5 @@ returns-2 c =
 pub read-sound-spec : {M : Type 1} → statement M
 read-sound-spec =
     tie.close
-    (tie.spec two-bytes-at-requires room-for-requires buffer-too-short-requires returns fill-tracks-requires fill-marks-requires fill-lengths-requires done-requires same-length same-length-2 same-length-3 returns-2)
+    (tie.spec two-bytes-at-requires room-for-requires buffer-too-short-requires returns fill-tracks-requires fill-marks-requires fill-lengths-requires done-requires same-length
+    same-length-2 same-length-3 returns-2)

@@ -111,4 +111,5 @@ returns-2 c =
 pub spares-clear-spec : {M : Type 1} → statement M
 spares-clear-spec =
     tie.close
-    (tie.spec Inv-loop μ-loop mul-place add-place loop-holds length-in-requires add-from packed-size-requires add-to sub-spare-clear part-spare-clear-start part-spare-clear-end spare-clear-requires returns add-i loop-less loop-again returns-2)
+    (tie.spec Inv-loop μ-loop mul-place add-place loop-holds length-in-requires add-from packed-size-requires add-to sub-spare-clear part-spare-clear-start part-spare-clear-end
+    spare-clear-requires returns add-i loop-less loop-again returns-2)

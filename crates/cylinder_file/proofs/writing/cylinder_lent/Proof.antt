@@ -18,27 +18,26 @@ total-length-requires c κs = search needs
 
 returns-2 : tie.Need-returns-2
 unfolding cylinderLent
-returns-2 c = rw (sym (c .before .before .before .lengths-right .ensures) ∙ not-false _ (c .before .before .if1 .left), ← c .before .total-length .ensures, ne-eqb _ _ (c .if2 .taken))
+returns-2 c =
+    let r = sym (c .before .before .before .lengths-right .ensures) ∙ not-false _ (c .before .before .if1 .left) in
+    rw (r, ← c .before .total-length .ensures, ne-eqb _ _ (c .if2 .taken))
 
 returns-3 : tie.Need-returns-3
 unfolding cylinderLent
-returns-3 c = rw (sym (c .before .before .before .before .lengths-right .ensures) ∙ not-false _ (c .before .before .before .if1 .left), ← c .before .before .total-length .ensures, eq-eqb _ _ (c .before .if2 .left), ne-eqb _ _ (c .if3 .taken))
+returns-3 c =
+    let r = sym (c .before .before .before .before .lengths-right .ensures) ∙ not-false _ (c .before .before .before .if1 .left) in
+    rw (r, ← c .before .before .total-length .ensures, eq-eqb _ _ (c .before .if2 .left), ne-eqb _ _ (c .if3 .taken))
 
 marks-legal-requires : tie.Need-marks-legal-requires
 marks-legal-requires c κs = search needs
 
 returns-4 : tie.Need-returns-4
 unfolding cylinderLent
-returns-4 c = rw (sym (c .before .before .before .before .before .lengths-right .ensures) ∙ not-false _ (c .before .before .before .before .if1 .left), ← c .before .before .before .total-length .ensures, eq-eqb _ _ (c .before .before .if2 .left), eq-eqb _ _ (c .before .if3 .left)) (c .marks-legal .ensures)
+returns-4 c =
+    let r = sym (c .before .before .before .before .before .lengths-right .ensures) ∙ not-false _ (c .before .before .before .before .if1 .left) in
+    rw (r, ← c .before .before .before .total-length .ensures, eq-eqb _ _ (c .before .before .if2 .left), eq-eqb _ _ (c .before .if3 .left)) (c .marks-legal .ensures)
 
 pub cylinder-lent-spec : {M : Type 1} → statement M
 cylinder-lent-spec =
     tie.close
-    (tie.spec
-    lengths-right-requires
-    returns
-    total-length-requires
-    returns-2
-    returns-3
-    marks-legal-requires
-    returns-4)
+    (tie.spec lengths-right-requires returns total-length-requires returns-2 returns-3 marks-legal-requires returns-4)

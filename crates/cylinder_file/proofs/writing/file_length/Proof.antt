@@ -1,7 +1,7 @@
 -- `file_length` meets its contract: the offset of the next track.
 use borrow.Author.Needs.{needs}
 use mathlib.Core.Path.{_≡_, ap, _∙_}
-use Prim.Native.Nat.{ℕ, _-_, _+_, _*_, _≤_}
+use Prim.Native.Nat.{_-_, _+_, _*_, _≤_}
 use native.Mathlib.Omega.{arith}
 use lib.ListN.{length}
 use Rattle.base.specs.Indexed.{sumTo}
@@ -12,9 +12,11 @@ use Rattle.cylinder.proofs.Sound.{offset-next}
 use Rattle.cylinder_file.proofs.writing.file_length.Statement.{statement}
 use Rattle.cylinder_file.proofs.writing.file_length.Tie as tie
 
+-- What holds at each turn: track i would start at the place.
 abbrev Inv-loop : tie.InvT-loop
 Inv-loop lengths place₀ i₀ place i = (i ≤ length lengths) × (place ≡ offsetOf (length lengths) (lengthOf lengths) i) × (place ≤ 64 + i * 73727)
 
+-- What falls with each turn: the number of tracks left.
 abbrev μ-loop : tie.MeasureT-loop
 μ-loop lengths place₀ i₀ place i = length lengths - i
 
@@ -69,19 +71,4 @@ returns c =
 pub file-length-spec : {M : Type 1} → statement M
 file-length-spec =
     tie.close
-    (tie.spec
-    Inv-loop
-    μ-loop
-    mul-place
-    add-place
-    loop-holds
-    mul-wide
-    shared-slice-read-wide
-    wide-requires
-    add-place-2
-    packed-size-requires
-    add-place-3
-    add-i
-    loop-less
-    loop-again
-    returns)
+    (tie.spec Inv-loop μ-loop mul-place add-place loop-holds mul-wide shared-slice-read-wide wide-requires add-place-2 packed-size-requires add-place-3 add-i loop-less loop-again returns)

@@ -1,7 +1,7 @@
 -- `lengths_right` meets its contract: every L passed is in range.
 use borrow.Author.Needs.{needs}
 use mathlib.Core.Path.{_≡_, refl, sym, ap, _∙_}
-use Prim.Native.Nat.{ℕ, _-_, _≤_}
+use Prim.Native.Nat.{_-_, _≤_}
 use native.Mathlib.Omega.{arith}
 use mathlib.Core.Bool.{true, false}
 use borrow.Author.Tests.{not-true, not-false}
@@ -14,9 +14,11 @@ use Rattle.cylinder.specs.Cylinder.{lengthOf, lengthsRight}
 use Rattle.cylinder_file.proofs.writing.lengths_right.Statement.{statement}
 use Rattle.cylinder_file.proofs.writing.lengths_right.Tie as tie
 
+-- What holds at each turn: every L before track i is in range.
 abbrev Inv-loop : tie.InvT-loop
 Inv-loop lengths i₀ i = (i ≤ length lengths) × (allTo (λ k. lengthRight (lengthOf lengths k)) i ≡ true)
 
+-- What falls with each turn: the number of tracks left.
 abbrev μ-loop : tie.MeasureT-loop
 μ-loop lengths i₀ i = length lengths - i
 
@@ -66,16 +68,4 @@ returns-2 c =
 pub lengths-right-spec : {M : Type 1} → statement M
 lengths-right-spec =
     tie.close
-    (tie.spec
-    Inv-loop
-    μ-loop
-    loop-holds
-    mul-wide
-    shared-slice-read-wide
-    wide-requires
-    length-right-requires
-    returns
-    add-i
-    loop-less
-    loop-again
-    returns-2)
+    (tie.spec Inv-loop μ-loop loop-holds mul-wide shared-slice-read-wide wide-requires length-right-requires returns add-i loop-less loop-again returns-2)

@@ -55,18 +55,5 @@ returns c = sets-eq (twoBytes (c .args .l) ++ fourBytes (c .args .offset)) (c .a
 pub put-entry-spec : {M : Type 1} → statement M
 put-entry-spec =
     tie.close
-    (tie.spec
-    cast-out
-    slice-write-out
-    cast-out-2
-    slice-write-out-2
-    cast-out-3
-    slice-write-out-3
-    cast-out-4
-    slice-write-out-4
-    cast-out-5
-    slice-write-out-5
-    cast-out-6
-    slice-write-out-6
-    same-length
-    returns)
+    (tie.spec cast-out slice-write-out cast-out-2 slice-write-out-2 cast-out-3 slice-write-out-3 cast-out-4 slice-write-out-4 cast-out-5 slice-write-out-5 cast-out-6 slice-write-out-6
+    same-length returns)

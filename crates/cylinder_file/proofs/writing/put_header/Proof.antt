@@ -36,12 +36,4 @@ returns c = sets-eq (header (c .args .n)) (c .args .out .now) 0 (omega arith)
 pub put-header-spec : {M : Type 1} → statement M
 put-header-spec =
     tie.close
-    (tie.spec
-    cast-out
-    slice-write-out
-    cast-out-2
-    slice-write-out-2
-    slice-write-out-3
-    slice-write-out-4
-    same-length
-    returns)
+    (tie.spec cast-out slice-write-out cast-out-2 slice-write-out-2 slice-write-out-3 slice-write-out-4 same-length returns)

@@ -2,8 +2,8 @@
 use mathlib.Core.Path.{_≡_, refl, sym, ap, _∙_}
 use Prim.Native.Nat.{ℕ, _-_, _+_, _*_, _≤_}
 use native.Mathlib.Omega.{arith}
-use mathlib.Core.List.{List, _++_}
-use lib.ListN.{length, take, drop}
+use mathlib.Core.List.{List}
+use lib.ListN.{length}
 use Rattle.base.specs.Laid.{laidOver}
 use Rattle.base.specs.Indexed.{sumTo, joinTo}
 use Rattle.base.proofs.Lists.{part-all-length}
@@ -11,7 +11,7 @@ use Rattle.base.proofs.Indexed.{sum-const}
 use Rattle.base.proofs.Filling.{fill-more}
 use Rattle.cylinder.specs.Cylinder.{lengthOf}
 use Rattle.cylinder.specs.Packed.{packedSize}
-use Rattle.cylinder.specs.File.{twoBytes, fourBytes, offsetOf, entry, table}
+use Rattle.cylinder.specs.File.{offsetOf, entry, table}
 use Rattle.cylinder.proofs.Sound.{offset-next}
 use Rattle.cylinder.proofs.Sizes.{length-entry}
 use borrow.Author.Needs.{needs}
@@ -96,9 +96,9 @@ loop-again c =
     let f : ℕ → List ℕ = entry (length ls) (lengthOf ls) in
     let e : w .result ≡ lengthOf ls (l .i) = w .ensures .0 in
     let s : c .packed-size .result ≡ packedSize (lengthOf ls (l .i)) = c .packed-size .ensures .0 ∙ ap packedSize e in
-    let q : twoBytes (w .result) ++ fourBytes (l .place) ≡ f (l .i) = rw (e, l .inv .2) in
+    let q = rw (e, l .inv .2) at (put .ensures) in
     let x = fill-more f (λ j. 6) (l .i) (l .p) old (l .out) (put .last .1 .1 .0) (l .inv .1 ∙ sym (sum-const 6 (l .i))) (λ j b. length-entry (length ls) (lengthOf ls) j)
-    (omega arith) (l .inv .5) (put .ensures ∙ ap (λ (y : List ℕ). laidOver y (take (length (l .out) - l .p) (drop (l .p) (l .out)))) q) in
+    (omega arith) (l .inv .5) q in
     (omega arith, omega arith, omega (arith, offset-next (length ls) (lengthOf ls) (l .i)), omega (arith, c .packed-size .ensures .1), x .0, x .1)
 
 same-length : tie.Need-same-length Inv-loop μ-loop
@@ -116,25 +116,5 @@ returns c =
 pub put-table-spec : {M : Type 1} → statement M
 put-table-spec =
     tie.close
-    (tie.spec
-    Inv-loop
-    μ-loop
-    mul-place
-    add-place
-    loop-holds
-    mul-wide
-    shared-slice-read-wide
-    wide-requires
-    sub-put-entry
-    part-put-entry-start
-    part-put-entry-end
-    put-entry-requires
-    add-place-2
-    packed-size-requires
-    add-place-3
-    add-p
-    add-i
-    loop-less
-    loop-again
-    same-length
-    returns)
+    (tie.spec Inv-loop μ-loop mul-place add-place loop-holds mul-wide shared-slice-read-wide wide-requires sub-put-entry part-put-entry-start part-put-entry-end put-entry-requires
+    add-place-2 packed-size-requires add-place-3 add-p add-i loop-less loop-again same-length returns)

@@ -38,11 +38,4 @@ returns c =
 pub put-track-spec : {M : Type 1} → statement M
 put-track-spec =
     tie.close
-    (tie.spec
-    copy-requires
-    sub-pack
-    part-pack-start
-    part-pack-end
-    pack-requires
-    same-length
-    returns)
+    (tie.spec copy-requires sub-pack part-pack-start part-pack-end pack-requires same-length returns)

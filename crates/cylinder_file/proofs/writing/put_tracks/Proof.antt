@@ -1,19 +1,19 @@
 -- `put_tracks` meets its contract: the tracks passed, each with its packed marks, lie over the front.
-use mathlib.Core.Path.{_≡_, refl, sym, ap, _∙_}
+use mathlib.Core.Path.{_≡_, refl, ap, _∙_}
 use Prim.Native.Nat.{ℕ, _-_, _+_, _≤_, _<_}
 use native.Mathlib.Omega.{arith}
 use mathlib.Core.Bool.{true}
-use mathlib.Core.List.{List, _++_}
-use lib.ListN.{length, take, drop}
+use mathlib.Core.List.{List}
+use lib.ListN.{length}
 use Rattle.base.specs.Laid.{laidOver}
 use Rattle.base.specs.Indexed.{sumTo, joinTo}
 use Rattle.base.proofs.Lists.{part-all-length, cut-is, cut-length}
-use Rattle.base.proofs.Laid.{laid-back, over-next, length-over}
-use Rattle.base.proofs.Indexed.{sum-next, join-next}
+use Rattle.base.proofs.Indexed.{sum-next}
+use Rattle.base.proofs.Filling.{fill-more}
 use Rattle.cylinder.specs.Cylinder.{lengthOf, startOf, partOf, cylinderLent}
-use Rattle.cylinder.specs.Packed.{packedSize, packed}
+use Rattle.cylinder.specs.Packed.{packedSize}
 use Rattle.cylinder.specs.File.{storedSize, storedTrack, storedTracks}
-use Rattle.cylinder.proofs.Sizes.{cylinder-lent, length-joined, track-inside, stored-inside}
+use Rattle.cylinder.proofs.Sizes.{cylinder-lent, length-stored, track-inside, stored-inside}
 use Rattle.cylinder_file.specs.Writing.{lent}
 use borrow.Author.Needs.{needs}
 use Rattle.cylinder_file.proofs.writing.put_tracks.Statement.{statement}
@@ -29,6 +29,7 @@ turn t m ls out i e h k =
     let n = track-inside (lent t m ls) r i k in
     (n .0, n .1, omega (arith, stored-inside (lent t m ls) r i k))
 
+-- What holds at each turn: the first i tracks with their packed marks lie over the front.
 abbrev Inv-loop : tie.InvT-loop
 Inv-loop tracks marks lengths out₀ at₀ p₀ i₀ out at p i =
     (i ≤ length lengths)
@@ -37,6 +38,7 @@ Inv-loop tracks marks lengths out₀ at₀ p₀ i₀ out at p i =
     × (length out ≡ length out₀)
     × (out ≡ laidOver (joinTo (storedTrack (lent tracks marks lengths)) i) out₀)
 
+-- What falls with each turn: the number of tracks left.
 abbrev μ-loop : tie.MeasureT-loop
 μ-loop tracks marks lengths out₀ at₀ p₀ i₀ out at p i = length lengths - i
 
@@ -55,91 +57,71 @@ wide-requires c κs = search needs
 
 add-to : tie.Need-add-to Inv-loop μ-loop
 add-to c =
-    let a = c .before .before .before .before .before .before .before .before .args in
-    let t = turn (a .tracks .now) (a .marks .now) (a .lengths .now) (a .out .now) (c .before .before .before .loop .i) (c .before .before .before .before .before .before .before .before .pre .1 .0) (c .before .before .before .before .before .before .before .before .pre .1 .1) (omega arith) in
-    let e : c .wide .result ≡ lengthOf (a .lengths .now) (c .before .before .before .loop .i) = c .wide .ensures .0 in
+    let s = c .before .before .before .before .before .before .before .before in
+    let a = s .args in
+    let t = turn (a .tracks .now) (a .marks .now) (a .lengths .now) (a .out .now) (c .before .before .before .loop .i) (s .pre .1 .0) (s .pre .1 .1) (omega arith) in
     search needs
 
 sub-put-track : tie.Need-sub-put-track Inv-loop μ-loop
-sub-put-track c =
-    let a = c .before .before .before .before .before .before .before .before .args in
-    let t = turn (a .tracks .now) (a .marks .now) (a .lengths .now) (a .out .now) (c .before .before .before .loop .i) (c .before .before .before .before .before .before .before .before .pre .1 .0) (c .before .before .before .before .before .before .before .before .pre .1 .1) (omega arith) in
-    let e : c .wide .result ≡ lengthOf (a .lengths .now) (c .before .before .before .loop .i) = c .wide .ensures .0 in
-    search needs
+sub-put-track c = search needs
 
 part-put-track-start : tie.Need-part-put-track-start Inv-loop μ-loop
-part-put-track-start c =
-    let a = c .before .before .before .before .before .before .before .before .args in
-    let t = turn (a .tracks .now) (a .marks .now) (a .lengths .now) (a .out .now) (c .before .before .before .loop .i) (c .before .before .before .before .before .before .before .before .pre .1 .0) (c .before .before .before .before .before .before .before .before .pre .1 .1) (omega arith) in
-    let e : c .wide .result ≡ lengthOf (a .lengths .now) (c .before .before .before .loop .i) = c .wide .ensures .0 in
-    search needs
+part-put-track-start c = search needs
 
 part-put-track-end : tie.Need-part-put-track-end Inv-loop μ-loop
 part-put-track-end c =
-    let a = c .before .before .before .before .before .before .before .before .args in
-    let t = turn (a .tracks .now) (a .marks .now) (a .lengths .now) (a .out .now) (c .before .before .before .loop .i) (c .before .before .before .before .before .before .before .before .pre .1 .0) (c .before .before .before .before .before .before .before .before .pre .1 .1) (omega arith) in
-    let e : c .wide .result ≡ lengthOf (a .lengths .now) (c .before .before .before .loop .i) = c .wide .ensures .0 in
+    let s = c .before .before .before .before .before .before .before .before in
+    let a = s .args in
+    let t = turn (a .tracks .now) (a .marks .now) (a .lengths .now) (a .out .now) (c .before .before .before .loop .i) (s .pre .1 .0) (s .pre .1 .1) (omega arith) in
     search needs
 
 sub-put-track-2 : tie.Need-sub-put-track-2 Inv-loop μ-loop
-sub-put-track-2 c =
-    let a = c .before .before .before .before .before .before .before .before .before .args in
-    let t = turn (a .tracks .now) (a .marks .now) (a .lengths .now) (a .out .now) (c .before .before .before .before .loop .i) (c .before .before .before .before .before .before .before .before .before .pre .1 .0) (c .before .before .before .before .before .before .before .before .before .pre .1 .1) (omega arith) in
-    let e : c .before .wide .result ≡ lengthOf (a .lengths .now) (c .before .before .before .before .loop .i) = c .before .wide .ensures .0 in
-    search needs
+sub-put-track-2 c = search needs
 
 part-put-track-start-2 : tie.Need-part-put-track-start-2 Inv-loop μ-loop
-part-put-track-start-2 c =
-    let a = c .before .before .before .before .before .before .before .before .before .args in
-    let t = turn (a .tracks .now) (a .marks .now) (a .lengths .now) (a .out .now) (c .before .before .before .before .loop .i) (c .before .before .before .before .before .before .before .before .before .pre .1 .0) (c .before .before .before .before .before .before .before .before .before .pre .1 .1) (omega arith) in
-    let e : c .before .wide .result ≡ lengthOf (a .lengths .now) (c .before .before .before .before .loop .i) = c .before .wide .ensures .0 in
-    search needs
+part-put-track-start-2 c = search needs
 
 part-put-track-end-2 : tie.Need-part-put-track-end-2 Inv-loop μ-loop
 part-put-track-end-2 c =
-    let a = c .before .before .before .before .before .before .before .before .before .args in
-    let t = turn (a .tracks .now) (a .marks .now) (a .lengths .now) (a .out .now) (c .before .before .before .before .loop .i) (c .before .before .before .before .before .before .before .before .before .pre .1 .0) (c .before .before .before .before .before .before .before .before .before .pre .1 .1) (omega arith) in
-    let e : c .before .wide .result ≡ lengthOf (a .lengths .now) (c .before .before .before .before .loop .i) = c .before .wide .ensures .0 in
+    let s = c .before .before .before .before .before .before .before .before .before in
+    let a = s .args in
+    let t = turn (a .tracks .now) (a .marks .now) (a .lengths .now) (a .out .now) (c .before .before .before .before .loop .i) (s .pre .1 .0) (s .pre .1 .1) (omega arith) in
     search needs
 
 sub-put-track-3 : tie.Need-sub-put-track-3 Inv-loop μ-loop
 sub-put-track-3 c =
-    let a = c .before .before .before .before .before .before .before .before .before .before .args in
-    let t = turn (a .tracks .now) (a .marks .now) (a .lengths .now) (a .out .now) (c .before .before .before .before .before .loop .i) (c .before .before .before .before .before .before .before .before .before .before .pre .1 .0) (c .before .before .before .before .before .before .before .before .before .before .pre .1 .1) (omega arith) in
-    let e : c .before .before .wide .result ≡ lengthOf (a .lengths .now) (c .before .before .before .before .before .loop .i) = c .before .before .wide .ensures .0 in
+    let s = c .before .before .before .before .before .before .before .before .before .before in
+    let a = s .args in
+    let t = turn (a .tracks .now) (a .marks .now) (a .lengths .now) (a .out .now) (c .before .before .before .before .before .loop .i) (s .pre .1 .0) (s .pre .1 .1) (omega arith) in
     search needs
 
 part-put-track-start-3 : tie.Need-part-put-track-start-3 Inv-loop μ-loop
 part-put-track-start-3 c =
-    let a = c .before .before .before .before .before .before .before .before .before .before .args in
-    let t = turn (a .tracks .now) (a .marks .now) (a .lengths .now) (a .out .now) (c .before .before .before .before .before .loop .i) (c .before .before .before .before .before .before .before .before .before .before .pre .1 .0) (c .before .before .before .before .before .before .before .before .before .before .pre .1 .1) (omega arith) in
-    let e : c .before .before .wide .result ≡ lengthOf (a .lengths .now) (c .before .before .before .before .before .loop .i) = c .before .before .wide .ensures .0 in
+    let s = c .before .before .before .before .before .before .before .before .before .before in
+    let a = s .args in
+    let t = turn (a .tracks .now) (a .marks .now) (a .lengths .now) (a .out .now) (c .before .before .before .before .before .loop .i) (s .pre .1 .0) (s .pre .1 .1) (omega arith) in
     search needs
 
 part-put-track-end-3 : tie.Need-part-put-track-end-3 Inv-loop μ-loop
-part-put-track-end-3 c =
-    let a = c .before .before .before .before .before .before .before .before .before .before .args in
-    let t = turn (a .tracks .now) (a .marks .now) (a .lengths .now) (a .out .now) (c .before .before .before .before .before .loop .i) (c .before .before .before .before .before .before .before .before .before .before .pre .1 .0) (c .before .before .before .before .before .before .before .before .before .before .pre .1 .1) (omega arith) in
-    let e : c .before .before .wide .result ≡ lengthOf (a .lengths .now) (c .before .before .before .before .before .loop .i) = c .before .before .wide .ensures .0 in
-    search needs
+part-put-track-end-3 c = search needs
 
 put-track-requires : tie.Need-put-track-requires Inv-loop μ-loop
 put-track-requires c κs =
-    let a = c .before .before .before .before .before .before .before .before .before .before .before .args in
-    let t = turn (a .tracks .now) (a .marks .now) (a .lengths .now) (a .out .now) (c .before .before .before .before .before .before .loop .i) (c .before .before .before .before .before .before .before .before .before .before .before .pre .1 .0) (c .before .before .before .before .before .before .before .before .before .before .before .pre .1 .1) (omega arith) in
-    let e : c .before .before .before .wide .result ≡ lengthOf (a .lengths .now) (c .before .before .before .before .before .before .loop .i) = c .before .before .before .wide .ensures .0 in
+    let s = c .before .before .before .before .before .before .before .before .before .before .before in
+    let a = s .args in
     let l = c .before .before .before .before .before .before .loop in
-    let w = c .before .before .before .wide .result in
-    let x = cut-length (l .at) w (a .tracks .now) (omega arith) in
-    let y = cut-length (l .at) w (a .marks .now) (omega arith) in
+    let w = c .before .before .before .wide in
+    let t = turn (a .tracks .now) (a .marks .now) (a .lengths .now) (a .out .now) (l .i) (s .pre .1 .0) (s .pre .1 .1) (omega arith) in
+    let x = cut-length (l .at) (w .result) (a .tracks .now) (omega (arith, w .ensures .0)) in
+    let y = cut-length (l .at) (w .result) (a .marks .now) (omega (arith, w .ensures .0)) in
     let z = part-all-length (l .p) (l .out) in
-    (omega arith, omega arith, rw x (omega arith))
+    (omega arith, omega (arith, w .ensures .1), rw x (omega (arith, w .ensures .0)))
 
 add-p : tie.Need-add-p Inv-loop μ-loop
 add-p c =
-    let a = c .before .before .before .before .before .before .before .before .before .before .before .before .before .before .args in
-    let t = turn (a .tracks .now) (a .marks .now) (a .lengths .now) (a .out .now) (c .before .before .before .before .before .before .before .before .before .loop .i) (c .before .before .before .before .before .before .before .before .before .before .before .before .before .before .pre .1 .0) (c .before .before .before .before .before .before .before .before .before .before .before .before .before .before .pre .1 .1) (omega arith) in
-    let e : c .before .before .before .before .before .before .wide .result ≡ lengthOf (a .lengths .now) (c .before .before .before .before .before .before .before .before .before .loop .i) = c .before .before .before .before .before .before .wide .ensures .0 in
+    let s = c .before .before .before .before .before .before .before .before .before .before .before .before .before .before in
+    let a = s .args in
+    let t = turn (a .tracks .now) (a .marks .now) (a .lengths .now) (a .out .now) (c .before .before .before .before .before .before .before .before .before .loop .i) (s .pre .1 .0) (s .pre .1 .1) (omega arith) in
     search needs
 
 packed-size-requires : tie.Need-packed-size-requires Inv-loop μ-loop
@@ -147,9 +129,9 @@ packed-size-requires c κs = search needs
 
 add-p-2 : tie.Need-add-p-2 Inv-loop μ-loop
 add-p-2 c =
-    let a = c .before .before .before .before .before .before .before .before .before .before .before .before .before .before .before .args in
-    let t = turn (a .tracks .now) (a .marks .now) (a .lengths .now) (a .out .now) (c .before .before .before .before .before .before .before .before .before .before .loop .i) (c .before .before .before .before .before .before .before .before .before .before .before .before .before .before .before .pre .1 .0) (c .before .before .before .before .before .before .before .before .before .before .before .before .before .before .before .pre .1 .1) (omega arith) in
-    let e : c .before .before .before .before .before .before .before .wide .result ≡ lengthOf (a .lengths .now) (c .before .before .before .before .before .before .before .before .before .before .loop .i) = c .before .before .before .before .before .before .before .wide .ensures .0 in
+    let s = c .before .before .before .before .before .before .before .before .before .before .before .before .before .before .before in
+    let a = s .args in
+    let t = turn (a .tracks .now) (a .marks .now) (a .lengths .now) (a .out .now) (c .before .before .before .before .before .before .before .before .before .before .loop .i) (s .pre .1 .0) (s .pre .1 .1) (omega arith) in
     search needs
 
 add-i : tie.Need-add-i Inv-loop μ-loop
@@ -161,25 +143,20 @@ loop-less c = search needs
 loop-again : tie.Need-loop-again Inv-loop μ-loop
 unfolding storedTrack partOf
 loop-again c =
-    let a = c .before .before .before .before .before .before .before .before .before .before .before .before .before .before .before .args in
-    let t = turn (a .tracks .now) (a .marks .now) (a .lengths .now) (a .out .now) (c .before .before .before .before .before .before .before .before .before .before .loop .i) (c .before .before .before .before .before .before .before .before .before .before .before .before .before .before .before .pre .1 .0) (c .before .before .before .before .before .before .before .before .before .before .before .before .before .before .before .pre .1 .1) (omega arith) in
-    let e : c .before .before .before .before .before .before .before .wide .result ≡ lengthOf (a .lengths .now) (c .before .before .before .before .before .before .before .before .before .before .loop .i) = c .before .before .before .before .before .before .before .wide .ensures .0 in
+    let s = c .before .before .before .before .before .before .before .before .before .before .before .before .before .before .before in
+    let a = s .args in
     let ls = a .lengths .now in
-    let old = a .out .now in
     let l = c .before .before .before .before .before .before .before .before .before .before .loop in
-    let w = c .before .before .before .before .before .before .before .wide .result in
+    let w = c .before .before .before .before .before .before .before .wide in
     let put = c .before .before .before .put-track in
-    let f : ℕ → List ℕ = storedTrack (lent (a .tracks .now) (a .marks .now) ls) in
+    let r = lent (a .tracks .now) (a .marks .now) ls in
+    let t = turn (a .tracks .now) (a .marks .now) (a .lengths .now) (a .out .now) (l .i) (s .pre .1 .0) (s .pre .1 .1) (omega arith) in
+    let e : w .result ≡ lengthOf ls (l .i) = w .ensures .0 in
+    let z : c .packed-size .result ≡ packedSize (lengthOf ls (l .i)) = c .packed-size .ensures .0 ∙ ap packedSize e in
     let g : ℕ → ℕ = λ j. storedSize (lengthOf ls j) in
-    let long = length-joined (lent (a .tracks .now) (a .marks .now) ls) (cylinder-lent _ (c .before .before .before .before .before .before .before .before .before .before .before .before .before .before .before .pre .1 .0)) in
-    let s : c .packed-size .result ≡ packedSize (lengthOf ls (l .i)) = c .packed-size .ensures .0 ∙ ap packedSize e in
-    let piece : List ℕ = take (l .at + w - l .at) (drop (l .at) (a .tracks .now)) ++ packed (take (l .at + w - l .at) (drop (l .at) (a .marks .now))) in
-    let q : piece ≡ f (l .i) = rw (cut-is (l .at) w (a .tracks .now), cut-is (l .at) w (a .marks .now), e, l .inv .1) in
-    let b = laid-back (l .p) piece (l .out) (put .last .1 .1 .0) (put .ensures) in
-    let x = over-next (l .p) (joinTo f (l .i)) piece old (l .out) _ (l .inv .2 ∙ sym (long (l .i) (omega arith))) (l .inv .4) b
-    ∙ ap (λ (y : List ℕ). laidOver y old) (ap (λ (y : List ℕ). joinTo f (l .i) ++ y) q ∙ sym (join-next f (l .i))) in
-    let n = ap length x ∙ length-over (joinTo f (l .i + 1)) old (omega (arith, long (l .i + 1) (omega arith), sum-next g (l .i))) in
-    (omega arith, omega (arith, sum-next (lengthOf ls) (l .i)), omega (arith, sum-next g (l .i)), n, x)
+    let q = rw (cut-is (l .at) (w .result) (a .tracks .now), cut-is (l .at) (w .result) (a .marks .now), e, l .inv .1) at (put .ensures) in
+    let x = fill-more (storedTrack r) g (l .i) (l .p) (a .out .now) (l .out) (put .last .1 .1 .0) (l .inv .2) (λ j b. length-stored r (cylinder-lent r (s .pre .1 .0)) j (omega arith)) (omega arith) (l .inv .4) q in
+    (omega arith, omega (arith, sum-next (lengthOf ls) (l .i)), omega (arith, sum-next g (l .i)), x .0, x .1)
 
 same-length : tie.Need-same-length Inv-loop μ-loop
 same-length c = search needs
@@ -187,35 +164,14 @@ same-length c = search needs
 returns : tie.Need-returns Inv-loop μ-loop
 unfolding storedTracks
 returns c =
-    let n : c .before .loop .i ≡ length (c .before .before .before .before .before .before .args .lengths .now) = omega arith in
-    c .before .loop .inv .4 ∙ ap (λ (i : ℕ). laidOver (joinTo (storedTrack (lent (c .before .before .before .before .before .before .args .tracks .now) (c .before .before .before .before .before .before .args .marks .now) (c .before .before .before .before .before .before .args .lengths .now))) i) (c .before .before .before .before .before .before .args .out .now)) n
+    let a = c .before .before .before .before .before .before .args in
+    let l = c .before .loop in
+    let n : l .i ≡ length (a .lengths .now) = omega arith in
+    l .inv .4 ∙ ap (λ (i : ℕ). laidOver (joinTo (storedTrack (lent (a .tracks .now) (a .marks .now) (a .lengths .now))) i) (a .out .now)) n
 
 pub put-tracks-spec : {M : Type 1} → statement M
 put-tracks-spec =
     tie.close
-    (tie.spec
-    Inv-loop
-    μ-loop
-    loop-holds
-    mul-wide
-    shared-slice-read-wide
-    wide-requires
-    add-to
-    sub-put-track
-    part-put-track-start
-    part-put-track-end
-    sub-put-track-2
-    part-put-track-start-2
-    part-put-track-end-2
-    sub-put-track-3
-    part-put-track-start-3
-    part-put-track-end-3
-    put-track-requires
-    add-p
-    packed-size-requires
-    add-p-2
-    add-i
-    loop-less
-    loop-again
-    same-length
-    returns)
+    (tie.spec Inv-loop μ-loop loop-holds mul-wide shared-slice-read-wide wide-requires add-to sub-put-track part-put-track-start part-put-track-end sub-put-track-2
+    part-put-track-start-2 part-put-track-end-2 sub-put-track-3 part-put-track-start-3 part-put-track-end-3 put-track-requires add-p packed-size-requires add-p-2 add-i loop-less
+    loop-again same-length returns)

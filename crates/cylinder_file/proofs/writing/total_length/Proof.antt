@@ -1,7 +1,7 @@
 -- `total_length` meets its contract: the sum of the Ls passed.
 use borrow.Author.Needs.{needs}
 use mathlib.Core.Path.{_≡_, refl}
-use Prim.Native.Nat.{ℕ, _-_, _*_, _≤_}
+use Prim.Native.Nat.{_-_, _*_, _≤_}
 use native.Mathlib.Omega.{arith}
 use lib.ListN.{length}
 use Rattle.base.specs.Indexed.{sumTo}
@@ -10,9 +10,11 @@ use Rattle.cylinder.specs.Cylinder.{lengthOf, startOf}
 use Rattle.cylinder_file.proofs.writing.total_length.Statement.{statement}
 use Rattle.cylinder_file.proofs.writing.total_length.Tie as tie
 
+-- What holds at each turn: the sum is that of the Ls before track i.
 abbrev Inv-loop : tie.InvT-loop
 Inv-loop lengths sum₀ i₀ sum i = (i ≤ length lengths) × (sum ≡ startOf lengths i) × (sum ≤ i * 65535)
 
+-- What falls with each turn: the number of tracks left.
 abbrev μ-loop : tie.MeasureT-loop
 μ-loop lengths sum₀ i₀ sum i = length lengths - i
 
@@ -53,15 +55,4 @@ returns c =
 pub total-length-spec : {M : Type 1} → statement M
 total-length-spec =
     tie.close
-    (tie.spec
-    Inv-loop
-    μ-loop
-    loop-holds
-    mul-wide
-    shared-slice-read-wide
-    wide-requires
-    add-sum
-    add-i
-    loop-less
-    loop-again
-    returns)
+    (tie.spec Inv-loop μ-loop loop-holds mul-wide shared-slice-read-wide wide-requires add-sum add-i loop-less loop-again returns)
