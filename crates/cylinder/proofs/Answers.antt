@@ -15,7 +15,7 @@ use Rattle.cylinder.specs.File.{headerLength, tableEnd, cylinderFile}
 use Rattle.cylinder.specs.Writing.{writeCylinder}
 use Rattle.cylinder.specs.Reading.{trackCountIn, zeroField, lengthIn, offsetIn, offsetDue, packedIn, headerRight, offsetsRight, sparesClear, judgeFile, cylinderIn, Room, roomFor, readCylinder}
 use Rattle.cylinder.specs.Answers.{CountIn, CountOut, LengthsIn, LengthOut, MarksIn, MarkOut, WrongCount, WrongLent, ShortBuffer, Writable, WriteMeans}
-use Rattle.cylinder.specs.Answers.{SparesZero, SpareSet, CutHeader, WrongHeader, CutTable, WrongLength, WrongOffset, RightOffsets, WrongEnd, WrongSpare, ShortRoom, Readable, ReadMeans}
+use Rattle.cylinder.specs.Answers.{SparesZero, SpareSet, CutHeader, WrongHeader, CutTable, WholeTable, WrongLength, WrongOffset, RightOffsets, WrongEnd, WrongSpare, ShortRoom, Readable, ReadMeans}
 use Rattle.cylinder.proofs.Tells.{Tells, tells-le, tells-eq, tells-and, tells-all, tells-marks, tells-spares, told, row}
 
 -- The test of the number of tracks tells whether it is 1 to 10.
@@ -157,44 +157,29 @@ module _ (f : List ℕ) (r : Room) where
   unfolding readCylinder judgeFile
   read-18 = (read-says headerWrong, λ q. rw (tells-head .passed (q .0), tells-header .failed (q .1)))
 
+  -- A file whose table is whole is judged by its Ls and what follows them alone.
+  table-judged : WholeTable f → judgeFile f
+      ≡ require (lengthsRight (lengthIn f) (trackCountIn f)) lentWrong
+      (require (offsetsRight f) offsetWrong
+      (require (eqb (length f) (offsetDue f (trackCountIn f))) fileLengthWrong
+      (require (sparesClear f) spareBitsSet
+      (good tt))))
+  unfolding judgeFile
+  table-judged q = rw (tells-head .passed (q .0 .0), tells-header .passed (q .0 .1), tells-table .passed (q .1))
+
   -- Reading gives 1 exactly where the table is whole, and an L in it is out of range.
   pub read-1 : (answerOf (readCylinder f r) ≡ lentWrong) ↔ WrongLength f
-  unfolding readCylinder judgeFile
-  read-1 = (
-    read-says lentWrong,
-    λ q. rw (
-      tells-head .passed (q .0 .0 .0),
-      tells-header .passed (q .0 .0 .1),
-      tells-table .passed (q .0 .1),
-      tells-lengths (lengthIn f) (trackCountIn f) .failed (q .1),
-    ),
-  )
+  unfolding readCylinder
+  read-1 = (read-says lentWrong, λ q. rw (table-judged (q .0), tells-lengths (lengthIn f) (trackCountIn f) .failed (q .1)))
 
   -- Reading gives 19 exactly where the Ls are right too, and an offset is not the one that is due.
   pub read-19 : (answerOf (readCylinder f r) ≡ offsetWrong) ↔ WrongOffset f
-  unfolding readCylinder judgeFile
-  read-19 = (
-    read-says offsetWrong,
-    λ q. rw (
-      tells-head .passed (q .0 .0 .0 .0),
-      tells-header .passed (q .0 .0 .0 .1),
-      tells-table .passed (q .0 .0 .1),
-      tells-lengths (lengthIn f) (trackCountIn f) .passed (q .0 .1),
-      tells-offsets .failed (q .1),
-    ),
-  )
+  unfolding readCylinder
+  read-19 = (read-says offsetWrong, λ q. rw (table-judged (q .0 .0), tells-lengths (lengthIn f) (trackCountIn f) .passed (q .0 .1), tells-offsets .failed (q .1)))
 
   -- A file whose offsets are right too is judged by its length and its spare bits alone.
   offsets-judged : RightOffsets f → judgeFile f ≡ require (eqb (length f) (offsetDue f (trackCountIn f))) fileLengthWrong (require (sparesClear f) spareBitsSet (good tt))
-  unfolding judgeFile
-  offsets-judged q =
-      rw (
-        tells-head .passed (q .0 .0 .0 .0),
-        tells-header .passed (q .0 .0 .0 .1),
-        tells-table .passed (q .0 .0 .1),
-        tells-lengths (lengthIn f) (trackCountIn f) .passed (q .0 .1),
-        tells-offsets .passed (q .1),
-      )
+  offsets-judged q = rw (table-judged (q .0 .0), tells-lengths (lengthIn f) (trackCountIn f) .passed (q .0 .1), tells-offsets .passed (q .1))
 
   -- A file of another length than is due is answered by 20.
   wrong-end : WrongEnd f → answerOf (readCylinder f r) ≡ fileLengthWrong

@@ -114,7 +114,7 @@ spare-fails l i bs h k n =
     one-fails (λ j. eqb (markAt bs (l + j)) 0) (packedSize l * 8 - l) (i - l) (omega arith) (rw e (ne-eqb (markAt bs i) 0 n))
 
 -- and where they are clear every bit behind the first l is 0.
-spare-at : (l i : ℕ) (bs : List ℕ) → spareClear l bs ≡ true → l ≤ i → i < packedSize l * 8 → markAt bs i ≡ 0
+pub spare-at : (l i : ℕ) (bs : List ℕ) → spareClear l bs ≡ true → l ≤ i → i < packedSize l * 8 → markAt bs i ≡ 0
 unfolding spareClear
 spare-at l i bs s h k =
     let e : l + (i - l) ≡ i = omega arith in

@@ -17,7 +17,7 @@ use Rattle.format.specs.Lent.{marksLegal}
 use Rattle.format.proofs.Base.Marks.{mark-at}
 use Rattle.cylinder.specs.Packed.{packedSize, markAt, spareClear}
 use Rattle.cylinder.specs.Answers.{MarksIn, MarkOut, SparesZero, SpareSet}
-use Rattle.cylinder.proofs.Packed.{spare-fails}
+use Rattle.cylinder.proofs.Packed.{spare-at}
 
 -- The test b holds exactly where P does, and fails exactly where Q does.
 pub record Tells (b : Bool) (P Q : Type 0) : Type 0 where
@@ -89,7 +89,7 @@ pub tells-spares : (l : ℕ) (bs : List ℕ) → Tells (spareClear l bs) (Spares
 unfolding spareClear
 tells-spares l bs =
     tells
-    (λ e i h k. cases (eqb (markAt bs i) 0) (eqb-true (markAt bs i) 0) (λ z. false-true (sym (spare-fails l i bs h k (eqb-false (markAt bs i) 0 z)) ∙ e)))
+    (λ e i h k. spare-at l i bs e h k)
     (λ e. let q = one-failed (λ j. eqb (markAt bs (l + j)) 0) (packedSize l * 8 - l) e in (l + q .0, omega arith, omega (arith, q .1), eqb-false _ 0 (q .2)))
     (λ x y. y .3 (x (y .0) (y .1) (y .2)))
 

@@ -131,30 +131,24 @@ module _ (c : Cylinder) (lent : Lent c) where
       ap (take (storedSize (lengthOf (c .lengths) k))) (sym (drop-drop p (tableEnd n) (cylinderFile c)) ∙ ap (drop p) (behind-table c ∙ sym (append-nil (joinTo (storedTrack c) n))))
       ∙ (rw (length-stored c lent k h, length-joined c lent k (omega arith)) at j)
 
-  -- The bytes of each track are read,
-  track-read : (k : ℕ) → k < trackCount c → trackIn (cylinderFile c) k ≡ trackOf c k
-  unfolding trackIn
-  track-read k h =
+  -- The bytes of each track are read and those of its marks,
+  stored-read : (k : ℕ) → k < trackCount c → (trackIn (cylinderFile c) k ≡ trackOf c k) × (packedIn (cylinderFile c) k ≡ packed (trackMarksOf c k))
+  unfolding trackIn packedIn
+  stored-read k h =
       let l : ℕ = lengthOf (c .lengths) k in
-      rw (length-read c k h, due-read c k (omega arith))
-      (part-first (offsetOf (trackCount c) (lengthOf (c .lengths)) k) l (packedSize l) (cylinderFile c) (trackOf c k) (packed (trackMarksOf c k))
-      (length-part (c .lengths) (c .tracks) k (trackCount c) (lent .tracks-long) h) (stored-part k h))
-
-  -- and those of its marks,
-  packed-read : (k : ℕ) → k < trackCount c → packedIn (cylinderFile c) k ≡ packed (trackMarksOf c k)
-  unfolding packedIn
-  packed-read k h =
-      let l : ℕ = lengthOf (c .lengths) k in
-      rw (length-read c k h, due-read c k (omega arith))
-      (part-second (offsetOf (trackCount c) (lengthOf (c .lengths)) k) l (packedSize l) (cylinderFile c) (trackOf c k) (packed (trackMarksOf c k))
-      (length-part (c .lengths) (c .tracks) k (trackCount c) (lent .tracks-long) h) (stored-part k h))
+      let p : ℕ = offsetOf (trackCount c) (lengthOf (c .lengths)) k in
+      let e = length-part (c .lengths) (c .tracks) k (trackCount c) (lent .tracks-long) h in
+      rw (length-read c k h, due-read c k (omega arith)) (
+        part-first p l (packedSize l) (cylinderFile c) (trackOf c k) (packed (trackMarksOf c k)) e (stored-part k h),
+        part-second p l (packedSize l) (cylinderFile c) (trackOf c k) (packed (trackMarksOf c k)) e (stored-part k h),
+      )
 
   -- and the marks themselves.
   marks-read : (k : ℕ) → k < trackCount c → marksIn (cylinderFile c) k ≡ trackMarksOf c k
   unfolding marksIn
   marks-read k h =
       let e = length-part (c .lengths) (c .marks) k (trackCount c) (lent .marks-long) h in
-      rw (length-read c k h, packed-read k h)
+      rw (length-read c k h, stored-read k h .1)
       (ap (λ (z : ℕ). unpacked z (packed (trackMarksOf c k))) (sym e)
       ∙ unpacked-packed (trackMarksOf c k) (legal-part (c .lengths) (c .marks) k (lent .marks-legal)))
 
@@ -162,7 +156,7 @@ module _ (c : Cylinder) (lent : Lent c) where
   spare-read : (k : ℕ) → k < trackCount c → spareClear (lengthIn (cylinderFile c) k) (packedIn (cylinderFile c) k) ≡ true
   spare-read k h =
       let e = length-part (c .lengths) (c .marks) k (trackCount c) (lent .marks-long) h in
-      rw (length-read c k h, packed-read k h, ← e) (spare-packed (trackMarksOf c k))
+      rw (length-read c k h, stored-read k h .1, ← e) (spare-packed (trackMarksOf c k))
 
   -- The file of one to ten tracks is sound.
   pub file-read : trackCountRight (trackCount c) ≡ true → SoundFile (cylinderFile c)
@@ -189,6 +183,6 @@ cylinder-read c e =
     let j = joined-tracks c e in
     rw (count-read c)
     (cylinder-same
-    (join-same (trackIn (cylinderFile c)) (trackOf c) (trackCount c) (track-read c lent) ∙ j .0)
+    (join-same (trackIn (cylinderFile c)) (trackOf c) (trackCount c) (λ k h. stored-read c lent k h .0) ∙ j .0)
     (join-same (marksIn (cylinderFile c)) (trackMarksOf c) (trackCount c) (marks-read c lent) ∙ j .1)
     (list-is (lengthIn (cylinderFile c)) (c .lengths) (trackCount c) 0 refl (length-read c)))

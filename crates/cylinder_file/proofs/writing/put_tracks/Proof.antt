@@ -121,7 +121,8 @@ add-p : tie.Need-add-p Inv-loop μ-loop
 add-p c =
     let s = c .before .before .before .before .before .before .before .before .before .before .before .before .before .before in
     let a = s .args in
-    let t = turn (a .tracks .now) (a .marks .now) (a .lengths .now) (a .out .now) (c .before .before .before .before .before .before .before .before .before .loop .i) (s .pre .1 .0) (s .pre .1 .1) (omega arith) in
+    let l = c .before .before .before .before .before .before .before .before .before .loop in
+    let t = turn (a .tracks .now) (a .marks .now) (a .lengths .now) (a .out .now) (l .i) (s .pre .1 .0) (s .pre .1 .1) (omega arith) in
     search needs
 
 packed-size-requires : tie.Need-packed-size-requires Inv-loop μ-loop
@@ -131,7 +132,8 @@ add-p-2 : tie.Need-add-p-2 Inv-loop μ-loop
 add-p-2 c =
     let s = c .before .before .before .before .before .before .before .before .before .before .before .before .before .before .before in
     let a = s .args in
-    let t = turn (a .tracks .now) (a .marks .now) (a .lengths .now) (a .out .now) (c .before .before .before .before .before .before .before .before .before .before .loop .i) (s .pre .1 .0) (s .pre .1 .1) (omega arith) in
+    let l = c .before .before .before .before .before .before .before .before .before .before .loop in
+    let t = turn (a .tracks .now) (a .marks .now) (a .lengths .now) (a .out .now) (l .i) (s .pre .1 .0) (s .pre .1 .1) (omega arith) in
     search needs
 
 add-i : tie.Need-add-i Inv-loop μ-loop
@@ -155,7 +157,8 @@ loop-again c =
     let z : c .packed-size .result ≡ packedSize (lengthOf ls (l .i)) = c .packed-size .ensures .0 ∙ ap packedSize e in
     let g : ℕ → ℕ = λ j. storedSize (lengthOf ls j) in
     let q = rw (cut-is (l .at) (w .result) (a .tracks .now), cut-is (l .at) (w .result) (a .marks .now), e, l .inv .1) at (put .ensures) in
-    let x = fill-more (storedTrack r) g (l .i) (l .p) (a .out .now) (l .out) (put .last .1 .1 .0) (l .inv .2) (λ j b. length-stored r (cylinder-lent r (s .pre .1 .0)) j (omega arith)) (omega arith) (l .inv .4) q in
+    let x = fill-more (storedTrack r) g (l .i) (l .p) (a .out .now) (l .out) (put .last .1 .1 .0) (l .inv .2)
+    (λ j b. length-stored r (cylinder-lent r (s .pre .1 .0)) j (omega arith)) (omega arith) (l .inv .4) q in
     (omega arith, omega (arith, sum-next (lengthOf ls) (l .i)), omega (arith, sum-next g (l .i)), x .0, x .1)
 
 same-length : tie.Need-same-length Inv-loop μ-loop
