@@ -47,7 +47,8 @@ unfolding packedIn
 packed-cut f k p l s e h q = cut-is (p + l) s f ∙ rw (q, e, h)
 
 -- The spare bits of those bytes are the track's,
-pub spare-cut : (f : List ℕ) (k p l s : ℕ) → p ≡ offsetDue f k → l ≡ lengthIn f k → s ≡ packedSize l → spareClear l (take (p + l + s - (p + l)) (drop (p + l) f)) ≡ spareClear (lengthIn f k) (packedIn f k)
+pub spare-cut : (f : List ℕ) (k p l s : ℕ) → p ≡ offsetDue f k → l ≡ lengthIn f k → s ≡ packedSize l
+    → spareClear l (take (p + l + s - (p + l)) (drop (p + l) f)) ≡ spareClear (lengthIn f k) (packedIn f k)
 spare-cut f k p l s e h q = rw (packed-cut f k p l s e h q, h)
 
 -- and the marks in them the track's.

@@ -1,10 +1,9 @@
 -- `fill_marks` meets its contract: the marks of the tracks passed are written.
-use mathlib.Core.Path.{_≡_, refl, ap, _∙_}
-use Prim.Native.Nat.{ℕ, _+_, _-_, _≤_}
+use mathlib.Core.Path.{_≡_, refl}
+use Prim.Native.Nat.{_+_, _-_, _≤_}
 use native.Mathlib.Omega.{arith}
-use mathlib.Core.List.{List}
 use borrow.Author.Needs.{needs}
-use lib.ListN.{length, take, drop}
+use lib.ListN.{length}
 use Rattle.base.specs.Indexed.{sumTo, joinTo}
 use Rattle.base.specs.Laid.{laidOver}
 use Rattle.base.proofs.Indexed.{sum-next}
@@ -123,8 +122,10 @@ loop-again c =
     let s = c .before .before .before .before .before .packed-size in
     let p = c .before .before .before .before .before .before .before .before .before .before .before .pre in
     let h = piece-in f (a .n) (l .i) (p .0) (p .1 .0) (omega arith) in
-    let w = c .before .before .unpack .ensures ∙ ap (λ (x : List ℕ). laidOver x (take (length (l .marks) - l .at) (drop (l .at) (l .marks)))) (marks-cut f (l .i) (l .place) (n .result) (s .result) (l .inv .1) (n .ensures .0) (s .ensures .0)) in
-    let m = fill-more (marksIn f) (lengthIn f) (l .i) (l .at) (a .marks .now) (l .marks) (c .before .before .unpack .last .1 .1 .0) (l .inv .2) (λ j b. length-marks f j) (omega (arith, p .1 .1)) (l .inv .4) w in (
+    let put = c .before .before .unpack in
+    let w = rw (marks-cut f (l .i) (l .place) (n .result) (s .result) (l .inv .1) (n .ensures .0) (s .ensures .0)) at (put .ensures) in
+    let m = fill-more (marksIn f) (lengthIn f) (l .i) (l .at) (a .marks .now) (l .marks) (put .last .1 .1 .0) (l .inv .2)
+    (λ j b. length-marks f j) (omega (arith, p .1 .1)) (l .inv .4) w in (
       omega arith,
       omega (arith, due-next f (l .i), n .ensures .0, s .ensures .0),
       omega (arith, sum-next (lengthIn f) (l .i), n .ensures .0),

@@ -118,8 +118,11 @@ loop-again c =
     let n = c .before .before .before .before .before .before .length-in in
     let p = c .before .before .before .before .before .before .before .before .before .before .before .pre in
     let h = piece-in f (a .n) (l .i) (p .0) (p .1 .0) (omega arith) in
-    let w = copy-over _ (trackIn f (l .i)) (take (length (l .tracks) - l .at) (drop (l .at) (l .tracks))) _ (track-cut f (l .i) (l .place) (n .result) (l .inv .1) (n .ensures .0)) (c .before .before .before .copy .ensures .1) in
-    let m = fill-more (trackIn f) (lengthIn f) (l .i) (l .at) (a .tracks .now) (l .tracks) (c .before .before .before .copy .last .1 .0) (l .inv .2) (λ j b. length-track f (file-sound f (p .1 .0)) j (omega (arith, p .0))) (omega (arith, p .1 .1)) (l .inv .4) w in (
+    let put = c .before .before .before .copy in
+    let cut = track-cut f (l .i) (l .place) (n .result) (l .inv .1) (n .ensures .0) in
+    let w = copy-over _ (trackIn f (l .i)) (take (length (l .tracks) - l .at) (drop (l .at) (l .tracks))) _ cut (put .ensures .1) in
+    let m = fill-more (trackIn f) (lengthIn f) (l .i) (l .at) (a .tracks .now) (l .tracks) (put .last .1 .0) (l .inv .2)
+    (λ j b. length-track f (file-sound f (p .1 .0)) j (omega (arith, p .0))) (omega (arith, p .1 .1)) (l .inv .4) w in (
       omega arith,
       omega (arith, due-next f (l .i), n .ensures .0, c .packed-size .ensures .0),
       omega (arith, sum-next (lengthIn f) (l .i), n .ensures .0),

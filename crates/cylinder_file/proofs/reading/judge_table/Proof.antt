@@ -42,9 +42,10 @@ lent-wrong-requires c κs = search needs
 returns-2 : tie.Need-returns-2
 unfolding judgeFile
 returns-2 c =
-    let f = c .before .before .before .before .before .args .file .now in
-    let p = c .before .before .before .before .before .pre in
-    let q : judgeFile f ≡ refused lentWrong = rw (le-leb 4 (length f) (p .1 .0), p .1 .1, ← p .0, le-leb _ _ (c .before .before .before .if1 .left), sym (c .before .before .lengths-right .ensures) ∙ not-true _ (c .before .if2 .taken)) in
+    let s = c .before .before .before .before .before in
+    let f = s .args .file .now in
+    let l = sym (c .before .before .lengths-right .ensures) ∙ not-true _ (c .before .if2 .taken) in
+    let q : judgeFile f ≡ refused lentWrong = rw (le-leb 4 (length f) (s .pre .1 .0), s .pre .1 .1, ← s .pre .0, le-leb _ _ (c .before .before .before .if1 .left), l) in
     ap refused (c .lent-wrong .ensures) ∙ sym q
 
 offsets-right-requires : tie.Need-offsets-right-requires
@@ -58,9 +59,11 @@ offset-wrong-requires c κs = search needs
 returns-3 : tie.Need-returns-3
 unfolding judgeFile
 returns-3 c =
-    let f = c .before .before .before .before .before .before .before .args .file .now in
-    let p = c .before .before .before .before .before .before .before .pre in
-    let q : judgeFile f ≡ refused offsetWrong = rw (le-leb 4 (length f) (p .1 .0), p .1 .1, ← p .0, le-leb _ _ (c .before .before .before .before .before .if1 .left), sym (c .before .before .before .before .lengths-right .ensures) ∙ not-false _ (c .before .before .before .if2 .left), sym (c .before .before .offsets-right .ensures) ∙ not-true _ (c .before .if3 .taken)) in
+    let s = c .before .before .before .before .before .before .before in
+    let f = s .args .file .now in
+    let l = sym (c .before .before .before .before .lengths-right .ensures) ∙ not-false _ (c .before .before .before .if2 .left) in
+    let o = sym (c .before .before .offsets-right .ensures) ∙ not-true _ (c .before .if3 .taken) in
+    let q : judgeFile f ≡ refused offsetWrong = rw (le-leb 4 (length f) (s .pre .1 .0), s .pre .1 .1, ← s .pre .0, le-leb _ _ (c .before .before .before .before .before .if1 .left), l, o) in
     ap refused (c .offset-wrong .ensures) ∙ sym q
 
 length-due-requires : tie.Need-length-due-requires
@@ -74,15 +77,18 @@ file-length-wrong-requires-2 c κs = search needs
 returns-4 : tie.Need-returns-4
 unfolding judgeFile
 returns-4 c =
-    let f = c .before .before .before .before .before .before .before .before .before .args .file .now in
-    let p = c .before .before .before .before .before .before .before .before .before .pre in
-    let q : judgeFile f ≡ refused fileLengthWrong = rw (le-leb 4 (length f) (p .1 .0), p .1 .1, ← p .0, le-leb _ _ (c .before .before .before .before .before .before .before .if1 .left), sym (c .before .before .before .before .before .before .lengths-right .ensures) ∙ not-false _ (c .before .before .before .before .before .if2 .left), sym (c .before .before .before .before .offsets-right .ensures) ∙ not-false _ (c .before .before .before .if3 .left), ← c .before .before .length-due .ensures, ne-eqb _ _ (c .before .if4 .taken)) in
+    let s = c .before .before .before .before .before .before .before .before .before in
+    let f = s .args .file .now in
+    let l = sym (c .before .before .before .before .before .before .lengths-right .ensures) ∙ not-false _ (c .before .before .before .before .before .if2 .left) in
+    let o = sym (c .before .before .before .before .offsets-right .ensures) ∙ not-false _ (c .before .before .before .if3 .left) in
+    let q : judgeFile f ≡ refused fileLengthWrong = rw (le-leb 4 (length f) (s .pre .1 .0), s .pre .1 .1, ← s .pre .0, le-leb _ _ (c .before .before .before .before .before .before .before .if1 .left), l, o, ← c .before .before .length-due .ensures, ne-eqb _ _ (c .before .if4 .taken)) in
     ap refused (c .file-length-wrong2 .ensures) ∙ sym q
 
 spares-clear-requires : tie.Need-spares-clear-requires
 spares-clear-requires c κs =
     let s = c .before .before .before .before .before .before .before .before in
-    (s .pre .0, (count-most (s .args .file .now) (s .args .n) (s .pre .0) (s .pre .1 .1), c .before .before .before .before .before .before .if1 .left, sym (c .if4 .left ∙ c .before .length-due .ensures)))
+    let n = count-most (s .args .file .now) (s .args .n) (s .pre .0) (s .pre .1 .1) in
+    (s .pre .0, (n, c .before .before .before .before .before .before .if1 .left, sym (c .if4 .left ∙ c .before .length-due .ensures)))
 
 spare-bits-set-requires : tie.Need-spare-bits-set-requires
 spare-bits-set-requires c κs = search needs
@@ -90,17 +96,25 @@ spare-bits-set-requires c κs = search needs
 returns-5 : tie.Need-returns-5
 unfolding judgeFile
 returns-5 c =
-    let f = c .before .before .before .before .before .before .before .before .before .before .before .args .file .now in
-    let p = c .before .before .before .before .before .before .before .before .before .before .before .pre in
-    let q : judgeFile f ≡ refused spareBitsSet = rw (le-leb 4 (length f) (p .1 .0), p .1 .1, ← p .0, le-leb _ _ (c .before .before .before .before .before .before .before .before .before .if1 .left), sym (c .before .before .before .before .before .before .before .before .lengths-right .ensures) ∙ not-false _ (c .before .before .before .before .before .before .before .if2 .left), sym (c .before .before .before .before .before .before .offsets-right .ensures) ∙ not-false _ (c .before .before .before .before .before .if3 .left), ← c .before .before .before .before .length-due .ensures, eq-eqb _ _ (c .before .before .before .if4 .left), sym (c .before .before .spares-clear .ensures) ∙ not-true _ (c .before .if5 .taken)) in
+    let s = c .before .before .before .before .before .before .before .before .before .before .before in
+    let f = s .args .file .now in
+    let l = sym (c .before .before .before .before .before .before .before .before .lengths-right .ensures) ∙ not-false _ (c .before .before .before .before .before .before .before .if2 .left) in
+    let o = sym (c .before .before .before .before .before .before .offsets-right .ensures) ∙ not-false _ (c .before .before .before .before .before .if3 .left) in
+    let z = sym (c .before .before .spares-clear .ensures) ∙ not-true _ (c .before .if5 .taken) in
+    let q : judgeFile f ≡ refused spareBitsSet = rw (le-leb 4 (length f) (s .pre .1 .0), s .pre .1 .1, ← s .pre .0, le-leb _ _ (c .before .before .before .before .before .before .before .before .before .if1 .left), l, o, ← c .before .before .before .before .length-due .ensures, eq-eqb _ _ (c .before .before .before .if4 .left), z) in
     ap refused (c .spare-bits-set .ensures) ∙ sym q
 
 returns-6 : tie.Need-returns-6
 unfolding judgeFile
 returns-6 c =
-    let f = c .before .before .before .before .before .before .before .before .before .before .args .file .now in
-    let p = c .before .before .before .before .before .before .before .before .before .before .pre in
-    rw (le-leb 4 (length f) (p .1 .0), p .1 .1, ← p .0, le-leb _ _ (c .before .before .before .before .before .before .before .before .if1 .left), sym (c .before .before .before .before .before .before .before .lengths-right .ensures) ∙ not-false _ (c .before .before .before .before .before .before .if2 .left), sym (c .before .before .before .before .before .offsets-right .ensures) ∙ not-false _ (c .before .before .before .before .if3 .left), ← c .before .before .before .length-due .ensures, eq-eqb _ _ (c .before .before .if4 .left), sym (c .before .spares-clear .ensures) ∙ not-false _ (c .if5 .left))
+    let s = c .before .before .before .before .before .before .before .before .before .before in
+    let f = s .args .file .now in
+    let l = sym (c .before .before .before .before .before .before .before .lengths-right .ensures) ∙ not-false _ (c .before .before .before .before .before .before .if2 .left) in
+    let o = sym (c .before .before .before .before .before .offsets-right .ensures) ∙ not-false _ (c .before .before .before .before .if3 .left) in
+    let d = c .before .before .before .length-due .ensures in
+    let e = c .before .before .if4 .left in
+    let z = sym (c .before .spares-clear .ensures) ∙ not-false _ (c .if5 .left) in
+    rw (le-leb 4 (length f) (s .pre .1 .0), s .pre .1 .1, ← s .pre .0, le-leb _ _ (c .before .before .before .before .before .before .before .before .if1 .left), l, o, ← d, eq-eqb _ _ e, z)
 
 pub judge-table-spec : {M : Type 1} → statement M
 judge-table-spec =

@@ -44,7 +44,8 @@ fill-tracks-requires c κs =
     let f = a .file .now in
     let n = c .before .before .before .two-bytes-at in
     let e = n .ensures .0 ∙ count-is f in
-    let h = room-enough f (n .result) (room (length (a .tracks .now)) (length (a .marks .now)) (length (a .lengths .now))) e (sym (c .before .before .room-for .ensures) ∙ not-false _ (c .before .if1 .left)) in
+    let d = sym (c .before .before .room-for .ensures) ∙ not-false _ (c .before .if1 .left) in
+    let h = room-enough f (n .result) (room (length (a .tracks .now)) (length (a .marks .now)) (length (a .lengths .now))) e d in
     (e, (s .pre, h .0))
 
 fill-marks-requires : tie.Need-fill-marks-requires
@@ -54,7 +55,8 @@ fill-marks-requires c κs =
     let f = a .file .now in
     let n = c .before .before .before .before .before .before .before .two-bytes-at in
     let e = n .ensures .0 ∙ count-is f in
-    let h = room-enough f (n .result) (room (length (a .tracks .now)) (length (a .marks .now)) (length (a .lengths .now))) e (sym (c .before .before .before .before .before .before .room-for .ensures) ∙ not-false _ (c .before .before .before .before .before .if1 .left)) in
+    let d = sym (c .before .before .before .before .before .before .room-for .ensures) ∙ not-false _ (c .before .before .before .before .before .if1 .left) in
+    let h = room-enough f (n .result) (room (length (a .tracks .now)) (length (a .marks .now)) (length (a .lengths .now))) e d in
     (e, (s .pre, h .1))
 
 fill-lengths-requires : tie.Need-fill-lengths-requires
@@ -64,7 +66,8 @@ fill-lengths-requires c κs =
     let f = a .file .now in
     let n = c .before .before .before .before .before .before .before .before .before .before .before .two-bytes-at in
     let e = n .ensures .0 ∙ count-is f in
-    let h = room-enough f (n .result) (room (length (a .tracks .now)) (length (a .marks .now)) (length (a .lengths .now))) e (sym (c .before .before .before .before .before .before .before .before .before .before .room-for .ensures) ∙ not-false _ (c .before .before .before .before .before .before .before .before .before .if1 .left)) in
+    let d = sym (c .before .before .before .before .before .before .before .before .before .before .room-for .ensures) ∙ not-false _ (c .before .before .before .before .before .before .before .before .before .if1 .left) in
+    let h = room-enough f (n .result) (room (length (a .tracks .now)) (length (a .marks .now)) (length (a .lengths .now))) e d in
     let t = table-in f (n .result) e (s .pre) in
     (t .0, t .1, h .2)
 
@@ -87,8 +90,11 @@ returns-2 c =
     let f = a .file .now in
     let n = c .before .before .before .before .before .before .before .before .before .before .before .before .before .before .before .two-bytes-at in
     let e = n .ensures .0 ∙ count-is f in
-    let q = read-good f (room (length (a .tracks .now)) (length (a .marks .now)) (length (a .lengths .now))) (s .pre) (sym (c .before .before .before .before .before .before .before .before .before .before .before .before .before .before .room-for .ensures) ∙ not-false _ (c .before .before .before .before .before .before .before .before .before .before .before .before .before .if1 .left)) in
-    rw (q, ← e) (c .done .ensures, (sym (length-list (lengthIn f) (n .result)), (c .before .before .before .before .before .before .before .before .before .before .before .fill-tracks .ensures, (c .before .before .before .before .before .before .before .fill-marks .ensures, c .before .before .before .fill-lengths .ensures))))
+    let d = sym (c .before .before .before .before .before .before .before .before .before .before .before .before .before .before .room-for .ensures) ∙ not-false _ (c .before .before .before .before .before .before .before .before .before .before .before .before .before .if1 .left) in
+    let q = read-good f (room (length (a .tracks .now)) (length (a .marks .now)) (length (a .lengths .now))) (s .pre) d in
+    let t = c .before .before .before .before .before .before .before .before .before .before .before .fill-tracks .ensures in
+    let m = c .before .before .before .before .before .before .before .fill-marks .ensures in
+    rw (q, ← e) (c .done .ensures, (sym (length-list (lengthIn f) (n .result)), (t, (m, c .before .before .before .fill-lengths .ensures))))
 
 pub read-sound-spec : {M : Type 1} → statement M
 read-sound-spec =

@@ -70,7 +70,9 @@ returns-4 : tie.Need-returns-4
 returns-4 c =
     let a = c .before .before .before .before .before .before .before .before .before .before .before .before .before .before .before .args in
     let r = lent (a .tracks .now) (a .marks .now) (a .lengths .now) in
-    let n = sym (c .before .before .before .before .before .before .before .before .before .before .track-count-right .ensures) ∙ not-false _ (c .before .before .before .before .before .before .before .before .before .if1 .left) in
+    let n =
+    sym (c .before .before .before .before .before .before .before .before .before .before .track-count-right .ensures)
+    ∙ not-false _ (c .before .before .before .before .before .before .before .before .before .if1 .left) in
     let d = sym (c .before .before .before .before .before .before .before .before .cylinder-lent .ensures) ∙ not-false _ (c .before .before .before .before .before .before .before .if2 .left) in
     let z = c .before .before .before .before .before .before .file-length .ensures ∙ sym (length-file r (cylinder-lent r d)) in
     rw (lent-write r (length (a .file .now)) n d (rw (← z) (c .before .before .before .before .before .if3 .left))) (c .done .ensures, (z, c .before .before .before .put-file .ensures))
