@@ -1,16 +1,16 @@
 -- What reading and writing the file of a cylinder give is bounded: ten tracks, and 45,094 bytes.
 use mathlib.Core.Path.{_≡_, refl}
-use Prim.Native.Nat.{ℕ, zero, suc, _*_, _≤_}
+use Prim.Native.Nat.{ℕ, _≤_}
 use native.Mathlib.Omega.{arith}
 use mathlib.Core.Bool.{true}
 use mathlib.Core.List.{List}
 use lib.ListN.{length}
 use lib.Dec.{leb}
-use Rattle.base.specs.Indexed.{sumTo}
+use Rattle.base.proofs.Indexed.{sum-most}
 use Rattle.format.specs.Answer.{lentWrong, headerWrong, bufferTooShort}
 use Rattle.format.specs.Judged.{Judged, good, refused}
 use Rattle.format.proofs.Base.Judged.{good-inj, require-good}
-use Rattle.cylinder.specs.Cylinder.{Cylinder, trackCount, lengthOf, trackCountRight, lengthsRight, cylinderLent}
+use Rattle.cylinder.specs.Cylinder.{Cylinder, trackCount, lengthOf, trackCountRight, cylinderLent}
 use Rattle.cylinder.specs.File.{storedSize, offsetOf, cylinderFile}
 use Rattle.cylinder.specs.Writing.{writeCylinder, fileBytes}
 use Rattle.cylinder.specs.Reading.{Room, readCylinder, cylinderRead}
@@ -19,18 +19,12 @@ use Rattle.cylinder.proofs.Sound.{length-most}
 use Rattle.cylinder.proofs.RoundTrip.{read-lent}
 
 -- A cylinder that is read has ten tracks at most.
-pub read-few : (f : List ℕ) (r : Room) → trackCount (cylinderRead (readCylinder f r)) ≤ 10
-read-few f r = go (readCylinder f r) refl
+pub read-most : (f : List ℕ) (r : Room) → trackCount (cylinderRead (readCylinder f r)) ≤ 10
+read-most f r = go (readCylinder f r) refl
   where
     go : (j : Judged Cylinder) → readCylinder f r ≡ j → trackCount (cylinderRead j) ≤ 10
     go (good c) e = track-count (trackCount c) (read-lent f r c e .0) .1
     go (refused a) e = omega arith
-
--- The first k tracks of a file take 4,503 bytes each at most.
-stored-most : (l : ℕ → ℕ) (n k : ℕ) → lengthsRight l n ≡ true → k ≤ n → sumTo (λ j. storedSize (l j)) k ≤ k * 4503
-unfolding sumTo
-stored-most l n zero e h = omega arith
-stored-most l n (suc k) e h = omega (arith, stored-most l n k e (omega arith), length-most l n k e (omega arith) .1)
 
 -- The file of a cylinder that is lent within the rule has 45,094 bytes at most,
 file-most : (c : Cylinder) → trackCountRight (trackCount c) ≡ true → cylinderLent c ≡ true → length (cylinderFile c) ≤ 45094
@@ -38,12 +32,14 @@ unfolding offsetOf
 file-most c e d =
     let r = cylinder-lent c d in
     let n = trackCount c in
-    omega (arith, length-file c r, stored-most (lengthOf (c .lengths)) n n (r .lengths-right) (omega arith), track-count n e .1)
+    let l = lengthOf (c .lengths) in
+    let m = sum-most (λ j. storedSize (l j)) n 4503 (λ k h. omega (arith, length-most l n k (r .lengths-right) h .1)) in
+    omega (arith, length-file c r, m, track-count n e .1)
 
 -- and no other is written.
-pub write-short : (c : Cylinder) (room : ℕ) → length (fileBytes (writeCylinder c room)) ≤ 45094
+pub write-most : (c : Cylinder) (room : ℕ) → length (fileBytes (writeCylinder c room)) ≤ 45094
 unfolding writeCylinder
-write-short c room = go (writeCylinder c room) refl
+write-most c room = go (writeCylinder c room) refl
   where
     go : (j : Judged (List ℕ)) → writeCylinder c room ≡ j → length (fileBytes j) ≤ 45094
     go (good f) e =

@@ -91,14 +91,14 @@ fn offsets_right(file: &[u8], n: usize) -> bool
     requires { ⌜ (n ≤ 10) × (tableEnd n ≤ length (now file)) ⌝ }
     ensures { λ r. ⌜ r ≡ offsetsRight (now (file .entry)) ⌝ }
 {
-    let mut place = 4 + n * 6;
+    let mut due = 4 + n * 6;
     let mut i: usize = 0;
     while i < n {
-        if offset_in(file, i) != place {
+        if offset_in(file, i) != due {
             return false;
         }
         let l = length_in(file, i);
-        place = place + l + packing::packed_size(l);
+        due = due + l + packing::packed_size(l);
         i += 1;
     }
     true

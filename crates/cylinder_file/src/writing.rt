@@ -113,13 +113,13 @@ fn put_table(lengths: &[u16], out: &mut [u8])
     requires { ⌜ (length (now lengths) ≤ 10) × (length (now lengths) * 6 ≤ length (now out)) ⌝ }
     ensures { λ _. ⌜ now (out .exit) ≡ laidOver (table (now (lengths .entry)) (length (now (lengths .entry)))) (now (out .entry)) ⌝ }
 {
-    let mut place = 4 + lengths.len() * 6;
+    let mut offset = 4 + lengths.len() * 6;
     let mut p: usize = 0;
     let mut i: usize = 0;
     while i < lengths.len() {
         let l = wide(lengths[i]);
-        put_entry(l, place, &mut out[p..]);
-        place = place + l + packing::packed_size(l);
+        put_entry(l, offset, &mut out[p..]);
+        offset = offset + l + packing::packed_size(l);
         p += 6;
         i += 1;
     }

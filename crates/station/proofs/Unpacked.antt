@@ -26,7 +26,7 @@ use Rattle.cylinder.specs.Cylinder.{Cylinder, trackCount}
 use Rattle.cylinder.specs.Writing.{writeCylinder, fileBytes}
 use Rattle.cylinder.specs.Reading.{Room, readCylinder, cylinderRead}
 use Rattle.cylinder.proofs.Places.{AtStart, read-start, write-start}
-use Rattle.cylinder.proofs.Bounds.{read-few, write-short}
+use Rattle.cylinder.proofs.Bounds.{read-most, write-most}
 use Rattle.station.proofs.Places.{Row, accept-within, list-within, blank-within, add-within, correct-within}
 use Rattle.station.proofs.Fields.{Inside, Fits, find-inside, pair-inside, step-fits}
 
@@ -98,11 +98,11 @@ given-read a n s k =
 
 -- The answer of reading a cylinder's file, and the number of its tracks.
 pub cylinder-read-read : (f : List ℕ) (r : Room) → let j = readCylinder f r in TellsAnswer (packedReading j) (answerOf j) × (givenIn (packedReading j) ≡ trackCount (cylinderRead j))
-cylinder-read-read f r = given-read _ _ (read-start f r) (omega (arith, read-few f r))
+cylinder-read-read f r = given-read _ _ (read-start f r) (omega (arith, read-most f r))
 
 -- The answer of writing one, and its length.
 pub cylinder-write-read : (c : Cylinder) (room : ℕ) → let j = writeCylinder c room in TellsAnswer (packedWriting j) (answerOf j) × (givenIn (packedWriting j) ≡ length (fileBytes j))
-cylinder-write-read c room = given-read _ _ (write-start c room) (omega (arith, write-short c room))
+cylinder-write-read c room = given-read _ _ (write-start c room) (omega (arith, write-most c room))
 
 -- The bits of Blank's result tell its answer.
 pub blank-read : (l k : ℕ) (own : Address) (flag : ℕ) (partner : Address) (s : ℕ) (key body : List ℕ) → let a = answerOf (blank l k own flag partner s key body) in TellsAnswer (packedAnswer a) a

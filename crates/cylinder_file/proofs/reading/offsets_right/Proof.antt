@@ -14,21 +14,21 @@ use Rattle.cylinder.proofs.Sound.{due-first, due-next}
 use Rattle.cylinder_file.proofs.reading.offsets_right.Statement.{statement}
 use Rattle.cylinder_file.proofs.reading.offsets_right.Tie as tie
 
--- What holds at each turn: track i is due at the place, and those before it have the offsets that are due.
+-- What holds at each turn: `due` is the offset that is due for track i, and the tracks before it have theirs.
 abbrev Inv-loop : tie.InvT-loop
-Inv-loop file n place₀ i₀ place i =
-    (i ≤ n) × (place ≡ offsetDue file i) × (place ≤ 64 + i * 73727)
+Inv-loop file n due₀ i₀ due i =
+    (i ≤ n) × (due ≡ offsetDue file i) × (due ≤ 64 + i * 73727)
     × (allTo (λ k. eqb (offsetIn file k) (offsetDue file k)) i ≡ true)
 
 -- What falls with each turn: the number of tracks left.
 abbrev μ-loop : tie.MeasureT-loop
-μ-loop file n place₀ i₀ place i = n - i
+μ-loop file n due₀ i₀ due i = n - i
 
-mul-place : tie.Need-mul-place Inv-loop μ-loop
-mul-place c = search needs
+mul-due : tie.Need-mul-due Inv-loop μ-loop
+mul-due c = search needs
 
-add-place : tie.Need-add-place Inv-loop μ-loop
-add-place c = search needs
+add-due : tie.Need-add-due Inv-loop μ-loop
+add-due c = search needs
 
 loop-holds : tie.Need-loop-holds Inv-loop μ-loop
 unfolding allTo
@@ -49,14 +49,14 @@ returns c =
 length-in-requires : tie.Need-length-in-requires Inv-loop μ-loop
 length-in-requires c κs = search needs
 
-add-place-2 : tie.Need-add-place-2 Inv-loop μ-loop
-add-place-2 c = search needs
+add-due-2 : tie.Need-add-due-2 Inv-loop μ-loop
+add-due-2 c = search needs
 
 packed-size-requires : tie.Need-packed-size-requires Inv-loop μ-loop
 packed-size-requires c κs = search needs
 
-add-place-3 : tie.Need-add-place-3 Inv-loop μ-loop
-add-place-3 c = search needs
+add-due-3 : tie.Need-add-due-3 Inv-loop μ-loop
+add-due-3 c = search needs
 
 add-i : tie.Need-add-i Inv-loop μ-loop
 add-i c = search needs
@@ -86,4 +86,4 @@ returns-2 c =
 pub offsets-right-spec : {M : Type 1} → statement M
 offsets-right-spec =
     tie.close
-    (tie.spec Inv-loop μ-loop mul-place add-place loop-holds offset-in-requires returns length-in-requires add-place-2 packed-size-requires add-place-3 add-i loop-less loop-again returns-2)
+    (tie.spec Inv-loop μ-loop mul-due add-due loop-holds offset-in-requires returns length-in-requires add-due-2 packed-size-requires add-due-3 add-i loop-less loop-again returns-2)

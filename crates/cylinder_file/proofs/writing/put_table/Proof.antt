@@ -18,25 +18,25 @@ use borrow.Author.Needs.{needs}
 use Rattle.cylinder_file.proofs.writing.put_table.Statement.{statement}
 use Rattle.cylinder_file.proofs.writing.put_table.Tie as tie
 
--- What holds at each turn: the first i entries lie over the front, and track i is due at the place.
+-- What holds at each turn: the first i entries lie over the front, and the offset is that of track i.
 abbrev Inv-loop : tie.InvT-loop
-Inv-loop lengths out₀ place₀ p₀ i₀ out place p i =
+Inv-loop lengths out₀ offset₀ p₀ i₀ out offset p i =
     (i ≤ length lengths)
     × (p ≡ i * 6)
-    × (place ≡ offsetOf (length lengths) (lengthOf lengths) i)
-    × (place ≤ 64 + i * 73727)
+    × (offset ≡ offsetOf (length lengths) (lengthOf lengths) i)
+    × (offset ≤ 64 + i * 73727)
     × (length out ≡ length out₀)
     × (out ≡ laidOver (joinTo (entry (length lengths) (lengthOf lengths)) i) out₀)
 
 -- What falls with each turn: the number of tracks left.
 abbrev μ-loop : tie.MeasureT-loop
-μ-loop lengths out₀ place₀ p₀ i₀ out place p i = length lengths - i
+μ-loop lengths out₀ offset₀ p₀ i₀ out offset p i = length lengths - i
 
-mul-place : tie.Need-mul-place Inv-loop μ-loop
-mul-place c = search needs
+mul-offset : tie.Need-mul-offset Inv-loop μ-loop
+mul-offset c = search needs
 
-add-place : tie.Need-add-place Inv-loop μ-loop
-add-place c = search needs
+add-offset : tie.Need-add-offset Inv-loop μ-loop
+add-offset c = search needs
 
 loop-holds : tie.Need-loop-holds Inv-loop μ-loop
 unfolding laidOver offsetOf sumTo joinTo
@@ -66,14 +66,14 @@ put-entry-requires c κs =
     let z = part-all-length (l .p) (l .out) in
     search needs
 
-add-place-2 : tie.Need-add-place-2 Inv-loop μ-loop
-add-place-2 c = search needs
+add-offset-2 : tie.Need-add-offset-2 Inv-loop μ-loop
+add-offset-2 c = search needs
 
 packed-size-requires : tie.Need-packed-size-requires Inv-loop μ-loop
 packed-size-requires c κs = search needs
 
-add-place-3 : tie.Need-add-place-3 Inv-loop μ-loop
-add-place-3 c = search needs
+add-offset-3 : tie.Need-add-offset-3 Inv-loop μ-loop
+add-offset-3 c = search needs
 
 add-p : tie.Need-add-p Inv-loop μ-loop
 add-p c = search needs
@@ -116,5 +116,5 @@ returns c =
 pub put-table-spec : {M : Type 1} → statement M
 put-table-spec =
     tie.close
-    (tie.spec Inv-loop μ-loop mul-place add-place loop-holds mul-wide shared-slice-read-wide wide-requires sub-put-entry part-put-entry-start part-put-entry-end put-entry-requires
-    add-place-2 packed-size-requires add-place-3 add-p add-i loop-less loop-again same-length returns)
+    (tie.spec Inv-loop μ-loop mul-offset add-offset loop-holds mul-wide shared-slice-read-wide wide-requires sub-put-entry part-put-entry-start part-put-entry-end put-entry-requires
+    add-offset-2 packed-size-requires add-offset-3 add-p add-i loop-less loop-again same-length returns)
