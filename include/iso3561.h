@@ -8,8 +8,9 @@
  * An unmarked byte has all eight clocks; a marked one is FF without its first five, which makes 55 7F.
  * A cylinder's file holds one to ten tracks with their marks. In memory the tracks stand one after the other in one
  * slice, all their marks likewise in another, and their Ls in a list; below, the sum is that of these Ls.
- * Every slice is a pointer and then a length. Nothing is kept after a call returns.
- * Slices lent for writing overlap no other slice of the same call. A pointer is never NULL, also where its length is 0.
+ * Every slice is a pointer and then a length, every list a pointer and then the number of its elements. Nothing is kept
+ * after a call returns.
+ * Slices and lists lent for writing overlap no other of the same call. A pointer is never NULL, also where its length is 0.
  */
 #ifndef ISO3561_H
 #define ISO3561_H
@@ -28,7 +29,7 @@ extern "C" {
 /* No track holds more sectors; List asks for so many rows. */
 #define ISO3561_MOST_SECTORS 67
 
-/* No cylinder's file holds more tracks or more bytes: ten tracks of 4,002 bytes. */
+/* No cylinder's file holds more tracks, or has more bytes than that of ten tracks of 4,002 bytes. */
 #define ISO3561_MOST_TRACKS 10
 #define ISO3561_LONGEST_FILE 45094
 
@@ -52,7 +53,7 @@ enum iso3561_number {
     ISO3561_ROOM_MISSING = 15,       /* fewer than 13 bytes would be left behind the last block */
     ISO3561_PAIR_WRONG = 16,         /* the two tracks do not agree, or the first is flagged 11 */
     ISO3561_PATTERN_WRONG = 17,      /* a byte's bit cells are no legal pattern, or a marked byte is not FF */
-    ISO3561_HEADER_WRONG = 18,       /* a file's number of tracks is not 1 to 10, or its zero field is not zero */
+    ISO3561_HEADER_WRONG = 18,       /* the number of tracks is not 1 to 10, or a file's zero field is not zero */
     ISO3561_OFFSET_WRONG = 19,       /* an offset in a file's table is not where that track has to start */
     ISO3561_FILE_LENGTH_WRONG = 20,  /* a file's header or table is cut short, or it is not as long as its table says */
     ISO3561_SPARE_BITS_SET = 21,     /* a spare bit behind the marks of a file's track is not zero */

@@ -103,7 +103,7 @@ patternWrong p = answerAt 17 p
 abbrev pub headerWrong : Answer
 headerWrong = answerAt 18 0
 
--- 19: an offset in the table of a cylinder's file is not where the track stands.
+-- 19: an offset in the table of a cylinder's file is not where the track has to start.
 abbrev pub offsetWrong : Answer
 offsetWrong = answerAt 19 0
 
@@ -115,6 +115,6 @@ fileLengthWrong = answerAt 20 0
 abbrev pub spareBitsSet : Answer
 spareBitsSet = answerAt 21 0
 
--- 24: a slice or list that is lent to be filled is too short.
+-- 24: a slice or list lent for writing is too short.
 abbrev pub bufferTooShort : Answer
 bufferTooShort = answerAt 24 0

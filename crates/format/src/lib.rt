@@ -185,7 +185,7 @@ pub fn header_wrong() -> Answer
     answer_at(18, 0)
 }
 
-// 19: an offset in the table of a cylinder's file is not where the track stands.
+// 19: an offset in the table of a cylinder's file is not where the track has to start.
 pub fn offset_wrong() -> Answer
     ensures { λ r. ⌜ asAnswer r ≡ offsetWrong ⌝ }
 {
@@ -206,7 +206,7 @@ pub fn spare_bits_set() -> Answer
     answer_at(21, 0)
 }
 
-// 24: a slice or list that is lent to be filled is too short.
+// 24: a slice or list lent for writing is too short.
 pub fn buffer_too_short() -> Answer
     ensures { λ r. ⌜ asAnswer r ≡ bufferTooShort ⌝ }
 {
