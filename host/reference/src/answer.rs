@@ -45,7 +45,7 @@ pub const FULL: u8 = 15;
 pub const PAIR: u8 = 16;
 /// 17: bit cells of no legal pattern, or a mark on another value than `FF`.
 pub const BIT_CELLS: u8 = 17;
-/// 18: the number of tracks or the zero field in the header of a file.
+/// 18: the number of tracks is not 1 to 10, or a file's zero field is not zero.
 pub const FILE_HEADER: u8 = 18;
 /// 19: an offset in the table of a file.
 pub const FILE_OFFSET: u8 = 19;

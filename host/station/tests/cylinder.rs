@@ -325,24 +325,61 @@ fn every_header() {
     }
 }
 
-/// Every bit of the header and of the table is looked at.
+/// Whether the first so many entries of a file's table have lengths in range.
+fn in_range(file: &[u8], count: usize) -> bool {
+    let mut entries = file[4..].chunks(6).take(count);
+    entries.all(|entry| (3_815..=4_002).contains(&u16::from_be_bytes([entry[0], entry[1]])))
+}
+
+/// The number for a file of so many tracks that is in rule but for one bit, at this place of its header or its table.
+fn number_for_bit(file: &[u8], count: usize, place: usize) -> u8 {
+    let named = usize::from(file[1]);
+    match (place, place.wrapping_sub(4) % 6) {
+        (0 | 2 | 3, _) => 18,
+        (1, _) if !(1..=MOST_TRACKS).contains(&named) => 18,
+        // With more tracks than there are, bytes of the first track stand where their entries would be.
+        (1, _) if !in_range(file, named) => 1,
+        // The first offset is that behind a table of another length.
+        (1, _) => 19,
+        (_, 2..) => 19,
+        _ if !in_range(file, count) => 1,
+        // Another length moves the offsets behind it, and the last one the file's end.
+        _ if place < 4 + 6 * (count - 1) => 19,
+        _ => 20,
+    }
+}
+
+/// Every bit of the header and of the table is looked at, and told by the number of its field.
 #[test]
 fn every_bit_of_header_and_table() {
-    let room = room_for_any();
+    let (room, mut met) = (room_for_any(), BTreeMap::<_, BTreeSet<_>>::new());
     for lengths in [&[3_906][..], &[3_815, 4_002, 3_906], &[3_912; 10]] {
         let mut file = cylinder_file(&tracks_of(lengths));
-        let mut met = BTreeSet::new();
         for place in 0..4 + 6 * lengths.len() {
             for bit in 0..8 {
                 let note = format!("bit {bit} at {place} of {lengths:?}");
                 file[place] ^= 1 << bit;
-                met.insert(number_read(&file, &room, &note));
+                let wanted = number_for_bit(&file, lengths.len(), place);
+                assert_eq!(number_read(&file, &room, &note), wanted, "{note}");
                 file[place] ^= 1 << bit;
+                let field = match place {
+                    0 | 1 => "number of tracks",
+                    2 | 3 => "zero field",
+                    _ if (place - 4) % 6 < 2 => "length",
+                    _ => "offset",
+                };
+                met.entry(field).or_default().insert(wanted);
             }
         }
-        assert!(met.is_subset(&[1, 18, 19, 20].into()), "{met:?}");
         assert_eq!(number_read(&file, &room, "as it was"), 0);
     }
+    let numbers = [
+        ("number of tracks", [1, 18, 19].into()),
+        ("zero field", [18].into()),
+        ("length", [1, 19, 20].into()),
+        ("offset", [19].into()),
+    ];
+    assert_eq!(met, numbers.into());
 }
 
 /// Of every length that a file may be cut to or lengthened to, only its own is not refused.

@@ -8,7 +8,7 @@ use super::pairs::Track;
 use super::rng::Rng;
 use super::sound::{random_length, sound};
 
-/// Tracks as they stand in memory: without holes in one slice, their marks in another, their lengths in a list.
+/// The tracks of a cylinder in memory: all their bytes, all their marks, and how long each of them is.
 #[derive(Clone, PartialEq, Eq, Debug)]
 pub struct Cylinder {
     pub tracks: Vec<u8>,

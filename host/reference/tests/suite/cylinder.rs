@@ -13,27 +13,26 @@ const READ: [u8; 7] = [0, 1, 18, 19, 20, 21, 24];
 /// Numbers that Write cylinder can give.
 const WRITE: [u8; 4] = [0, 1, 18, 24];
 
-/// Buffers full of noise.
-fn noise(tracks: usize, marks: usize, lengths: usize) -> Cylinder {
+/// Buffers full of noise, of these lengths.
+fn noise([tracks, marks, lengths]: [usize; 3]) -> Cylinder {
+    let mut rng = Rng::new(0xC711_0000);
     Cylinder {
-        tracks: vec![0xA5; tracks],
-        marks: vec![0x5A; marks],
-        lengths: vec![0xC33C; lengths],
+        tracks: rng.bytes(tracks),
+        marks: rng.bytes(marks),
+        lengths: (0..lengths).map(|_| rng.bits() as u16).collect(),
     }
 }
 
 /// Read cylinder into noise of these lengths, which stays behind what is read, and whole where it is refused; gives what was read.
-fn read_into(file: &[u8], [tracks, marks, lengths]: [usize; 3]) -> (Answer, Cylinder) {
-    let mut read = noise(tracks, marks, lengths);
+fn read_into(file: &[u8], rooms: [usize; 3]) -> (Answer, Cylinder) {
+    let before = noise(rooms);
+    let mut read = before.clone();
     let (done, count) = read_cylinder(file, &mut read.tracks, &mut read.marks, &mut read.lengths);
     assert_eq!(count > 0, done == answer(0, 0), "{done:?}");
     let sum = read.lengths[..count].iter().map(|&l| usize::from(l)).sum();
-    let rest = Cylinder {
-        tracks: read.tracks.split_off(sum),
-        marks: read.marks.split_off(sum),
-        lengths: read.lengths.split_off(count),
-    };
-    assert!(rest == noise(tracks - sum, marks - sum, lengths - count));
+    assert!(read.tracks.split_off(sum) == before.tracks[sum..]);
+    assert!(read.marks.split_off(sum) == before.marks[sum..]);
+    assert!(read.lengths.split_off(count) == before.lengths[count..]);
     (done, read)
 }
 
@@ -44,7 +43,8 @@ fn read(file: &[u8]) -> (Answer, Cylinder) {
 
 /// Write cylinder into noise of this length, which stays behind the file, and whole where it is refused; gives the file.
 fn write_into(cylinder: &Cylinder, room: usize) -> (Answer, Vec<u8>) {
-    let mut file = vec![0xC3; room];
+    let before = Rng::new(0xC711_F11E).bytes(room);
+    let mut file = before.clone();
     let Cylinder {
         tracks,
         marks,
@@ -52,8 +52,7 @@ fn write_into(cylinder: &Cylinder, room: usize) -> (Answer, Vec<u8>) {
     } = cylinder;
     let (done, length) = write_cylinder(tracks, marks, lengths, &mut file);
     assert_eq!(length > 0, done == answer(0, 0), "{done:?}");
-    let rest = file.split_off(length);
-    assert!(rest.iter().all(|&byte| byte == 0xC3), "{done:?}");
+    assert!(file.split_off(length) == before[length..], "{done:?}");
     (done, file)
 }
 
@@ -209,6 +208,7 @@ fn answer_20_for_the_header() {
     }
 }
 
+/// Every number of tracks and many zero fields, and files that are laid out for none, eleven and twelve tracks.
 #[test]
 fn answer_18_reading() {
     let whole = cylinder_file(&tracks_of(&[3_906]));
@@ -217,7 +217,8 @@ fn answer_18_reading() {
         header[..2].copy_from_slice(&count.to_be_bytes());
         // The header alone: a number in rule lacks its table.
         let number = if (1..=10).contains(&count) { 20 } else { 18 };
-        assert_eq!(read(&header).0, answer(number, 0), "{count}");
+        let done = read_into(&header, [8, 8, 2]).0;
+        assert_eq!(done, answer(number, 0), "{count}");
         refused += usize::from(number == 18);
     }
     assert_eq!(refused, 65_526);
@@ -296,13 +297,13 @@ fn answer_19() {
     file[5] -= 1;
     file[11] += 1;
     assert_eq!(read(&file).0, answer(20, 0));
-    // Lengths of another sum, with offsets that follow: 3,906 and 3,907 take 4,395 and 4,396 bytes.
+    // 3,905 and 3,907, whose sum is the same, with an offset that follows: they take 4,394 and 4,396 bytes, together as many as twice 4,395.
     file[5] -= 1;
     file[15] -= 1;
     assert_eq!(read(&file).0, answer(0, 0));
 }
 
-/// A file with a byte more, a byte less, another file behind it, and all but its first track.
+/// A file with a byte less, with a byte more, with the same file once more behind it, and without its first track.
 #[test]
 fn answer_20_for_the_file() {
     for count in [1, 2, 10] {
@@ -316,6 +317,14 @@ fn answer_20_for_the_file() {
             file.extend(vec![0; more]);
             assert_eq!(read(&file).0, answer(20, 0), "{count} {more}");
         }
+        let mut file = whole.clone();
+        file.extend(&whole);
+        assert_eq!(read(&file).0, answer(20, 0), "{count} twice");
+        // A track of 3,906 bytes takes 4,395.
+        let mut file = whole.clone();
+        let first = 4 + 6 * count;
+        file.drain(first..first + 4_395);
+        assert_eq!(read(&file).0, answer(20, 0), "{count} without the first");
     }
 }
 
@@ -395,6 +404,7 @@ fn order_of_the_answers_reading() {
     }
 }
 
+/// Lists of none, of eleven and of far more lengths, before anything else that is wrong.
 #[test]
 fn answer_18_writing() {
     for count in [0, 11, 12, 100, 256, 257, 266, 65_536, 65_537] {
@@ -413,6 +423,7 @@ fn answer_18_writing() {
     }
 }
 
+/// Lengths next to the range, in each place of the list, and slices next to their sum.
 #[test]
 fn answer_1_writing() {
     for count in [1, 2, 10] {
@@ -458,6 +469,7 @@ fn answer_1_writing() {
     }
 }
 
+/// Every value but 0 and 1, as the first and the last mark of the first and of the last track, and as the second mark.
 #[test]
 fn marks_out_of_rule() {
     for count in [1, 10] {
@@ -535,24 +547,97 @@ fn wanted_writings() {
     assert_eq!(counts, (1..=10).collect());
 }
 
-/// Why a file is refused, as far as the header and the lengths of the file and of what is lent show.
+/// The lengths and offsets in a file's table, which is whole.
+fn table_of(file: &[u8]) -> Vec<(usize, usize)> {
+    let number = |bytes: &[u8]| {
+        bytes
+            .iter()
+            .fold(0, |sum, &byte| sum << 8 | usize::from(byte))
+    };
+    let entries = file[4..].chunks(6).take(file[1].into());
+    entries
+        .map(|entry| (number(&entry[..2]), number(&entry[2..])))
+        .collect()
+}
+
+/// How many spare bits are set in a file that has no other fault.
+fn spare_bits_set(file: &[u8]) -> u32 {
+    let set_in = |(length, offset): (usize, usize)| {
+        let last = file[offset + length + length.div_ceil(8) - 1];
+        let spare = 7 - (length - 1) % 8;
+        (last & ((1 << spare) - 1)).count_ones()
+    };
+    table_of(file).into_iter().map(set_in).sum()
+}
+
+/// Every kind of wanted reading.
+const READ_KINDS: [&str; 19] = [
+    "1 for a length above the range",
+    "1 for a length below the range",
+    "18 for the number of tracks",
+    "18 for the zero field",
+    "19 for a later offset",
+    "19 for the first offset",
+    "20 for the file",
+    "20 for the header",
+    "20 for the table",
+    "21 for one spare bit",
+    "21 for several spare bits",
+    "24 for both",
+    "24 for the list",
+    "24 for the marks",
+    "24 for the tracks",
+    "done",
+    "done with a longer list",
+    "done with more marks",
+    "done with more tracks",
+];
+
+/// Every kind of wanted writing.
+const WRITE_KINDS: [&str; 11] = [
+    "1 for a length",
+    "1 for a mark",
+    "1 for both",
+    "1 for the marks",
+    "1 for the tracks",
+    "18 for eleven",
+    "18 for many",
+    "18 for none",
+    "24 for less",
+    "24 for nothing",
+    "done",
+];
+
+/// Why a file is refused, or with what it is read, as far as its table, its spare bits and the lengths of the file and of what is lent show.
 fn kind_of_reading(w: &WantedReadCylinder, number: u8) -> &'static str {
     let count = w.file.get(1).copied().map_or(0, usize::from);
     let zero_field = w.file.get(2..4) == Some(&[0, 0]);
     match number {
+        1 => {
+            let mut lengths = table_of(&w.file).into_iter().map(|(length, _)| length);
+            match lengths.find(|length| !(3_815..=4_002).contains(length)) {
+                Some(4_003..) => "1 for a length above the range",
+                _ => "1 for a length below the range",
+            }
+        }
         18 if !zero_field => "18 for the zero field",
         18 => "18 for the number of tracks",
+        19 if table_of(&w.file)[0].1 != 4 + 6 * count => "19 for the first offset",
+        19 => "19 for a later offset",
         20 if w.file.len() < 4 => "20 for the header",
         20 if w.file.len() < 4 + 6 * count => "20 for the table",
         20 => "20 for the file",
+        21 if spare_bits_set(&w.file) == 1 => "21 for one spare bit",
+        21 => "21 for several spare bits",
         24 if w.lengths_count < count => "24 for the list",
         24 if w.tracks_length < w.marks_length => "24 for the tracks",
         24 if w.marks_length < w.tracks_length => "24 for the marks",
         24 => "24 for both",
-        0 if w.tracks_length > w.marks_length => "more tracks",
-        0 if w.marks_length > w.tracks_length => "more marks",
-        0 if w.lengths_count > count => "a longer list",
-        _ => "other",
+        0 if w.tracks_length > w.marks_length => "done with more tracks",
+        0 if w.marks_length > w.tracks_length => "done with more marks",
+        0 if w.lengths_count > count => "done with a longer list",
+        0 => "done",
+        _ => "no number of the call",
     }
 }
 
@@ -576,28 +661,29 @@ fn kind_of_writing(w: &WantedWriteCylinder, number: u8) -> &'static str {
         1 => "1 for both",
         24 if w.file_length == 0 => "24 for nothing",
         24 => "24 for less",
-        _ => "other",
+        0 => "done",
+        _ => "no number of the call",
     }
 }
 
 /// Each answer by each of its reasons is among the wanted ones.
 #[test]
 fn wanted_reasons_are_varied() {
-    let mut met = BTreeMap::<_, usize>::new();
+    let (mut reading, mut writing) = (BTreeMap::<_, usize>::new(), BTreeMap::<_, usize>::new());
     for seed in 0..4_000 {
         let w = wanted_read_cylinder(seed);
         let rooms = [w.tracks_length, w.marks_length, w.lengths_count];
         let number = read_into(&w.file, rooms).0.number;
-        *met.entry(("read", kind_of_reading(&w, number)))
-            .or_default() += 1;
+        *reading.entry(kind_of_reading(&w, number)).or_default() += 1;
         let w = wanted_write_cylinder(seed);
         let number = write_into(&w.cylinder, w.file_length).0.number;
-        *met.entry(("write", kind_of_writing(&w, number)))
-            .or_default() += 1;
+        *writing.entry(kind_of_writing(&w, number)).or_default() += 1;
     }
-    println!("{met:?}");
-    assert_eq!(met.len(), 13 + 11, "{met:?}");
-    assert!(met.values().all(|&times| times >= 5), "{met:?}");
+    for (met, kinds) in [(reading, &READ_KINDS[..]), (writing, &WRITE_KINDS)] {
+        println!("{met:?}");
+        assert_eq!(met.keys().copied().collect::<Vec<_>>(), kinds);
+        assert!(met.values().all(|&times| times >= 5), "{met:?}");
+    }
 }
 
 /// Accepted tracks are accepted as before when they were in a file.
