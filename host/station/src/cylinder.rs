@@ -42,6 +42,9 @@ pub const LONGEST_FILE: usize = 45_094;
 /// Read cylinder: reads a file into the tracks one after the other, their marks likewise, and the list of their lengths; gives the number of tracks.
 ///
 /// What lies behind the last track, its last mark and its length stays as it is, and a refusal changes nothing.
+/// A file is refused with 18 for a number of tracks that is not 1 to 10 or a zero field that is not zero, with 1 for a length that is not 3,815 to 4,002,
+/// with 19 for an offset that is not where the track has to start, with 20 if its header or its table is cut short or it is not as long as its table says,
+/// and with 21 for a spare bit that is set.
 /// A slice shorter than the sum of the lengths, or a list shorter than the number of tracks, is refused with 24, after all that is wrong with the file.
 ///
 /// ```
@@ -88,12 +91,14 @@ pub fn read_cylinder(
             lengths.len(),
         )
     };
-    Word(word).count()
+    Word(word).given()
 }
 
 /// Write cylinder: writes the one file of some tracks, lent one after the other with their marks and the list of their lengths; gives the file's length.
 ///
-/// What lies behind the file stays as it is, and a refusal changes nothing. A buffer shorter than the file is refused with 24.
+/// There must be 1 to 10 lengths, else it is refused with 18. Each of them must be 3,815 to 4,002, the tracks and the marks must each be exactly as long
+/// as the lengths together, and each mark must be 0 or 1, else it is refused with 1. A buffer shorter than the file is refused with 24.
+/// What lies behind the file stays as it is, and a refusal changes nothing.
 ///
 /// ```
 /// use station::{write_cylinder, Answer};
@@ -131,5 +136,5 @@ pub fn write_cylinder(
             file.len(),
         )
     };
-    Word(word).count()
+    Word(word).given()
 }

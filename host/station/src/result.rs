@@ -172,12 +172,12 @@ impl Word {
     }
 
     /// How many tracks Read cylinder read, or how many bytes Write cylinder wrote, or their refusal, which has no place.
-    pub fn count(self) -> Result<usize, Answer> {
-        let count = self.bits(32, 64) as usize;
+    pub fn given(self) -> Result<usize, Answer> {
+        let given = self.bits(32, 64) as usize;
         debug_assert_eq!(self.bits(8, 32), 0, "unused bits of {:016x}", self.0);
         let answer = self.answer();
-        debug_assert_eq!(answer.is_done(), count > 0, "count of {:016x}", self.0);
-        answer.done().map(|()| count)
+        debug_assert_eq!(answer.is_done(), given > 0, "given in {:016x}", self.0);
+        answer.done().map(|()| given)
     }
 
     /// What Walk gives, which has its own layout: the flag stands where other calls have the fault.
@@ -264,9 +264,9 @@ mod tests {
             let taken = std::panic::catch_unwind(|| Word(word).sector_count());
             assert!(taken.is_err(), "{word:016x}");
         }
-        // Of a cylinder's file: a place with or without a refusal, a count with one, none without, and bit 15.
+        // Of a cylinder's file: a place with or without a refusal, something given with one, nothing given without, and bit 15.
         for word in [0x1_0001_0000, 0x1_0012, 0x1_0000_0012, 0, 0x1_0000_8000] {
-            let taken = std::panic::catch_unwind(|| Word(word).count());
+            let taken = std::panic::catch_unwind(|| Word(word).given());
             assert!(taken.is_err(), "{word:016x}");
         }
     }
@@ -285,16 +285,16 @@ mod tests {
 
     /// What the calls for a cylinder's file give from its own bits, and their refusals.
     #[test]
-    fn counts_of_a_result() {
-        assert_eq!(Word(0x0000_000A_0000_0000).count(), Ok(10));
-        assert_eq!(Word(0x0000_B026_0000_0000).count(), Ok(45_094));
-        assert_eq!(Word(0xFFFF_FFFF_0000_0000).count(), Ok(0xFFFF_FFFF));
+    fn numbers_given_in_a_result() {
+        assert_eq!(Word(0x0000_000A_0000_0000).given(), Ok(10));
+        assert_eq!(Word(0x0000_B026_0000_0000).given(), Ok(45_094));
+        assert_eq!(Word(0xFFFF_FFFF_0000_0000).given(), Ok(0xFFFF_FFFF));
         for number in [1, 18, 19, 20, 21, 24] {
             let refused = Answer {
                 number,
                 ..Answer::DONE
             };
-            assert_eq!(Word(number.into()).count(), Err(refused));
+            assert_eq!(Word(number.into()).given(), Err(refused));
         }
     }
 
