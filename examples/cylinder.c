@@ -9,7 +9,7 @@
 #include <stdio.h>
 #include <string.h>
 
-/* Three tracks of other lengths, and where each starts among the bytes and among the marks. */
+/* Three tracks of different lengths, and where each starts among the bytes and among the marks. */
 #define TRACKS 3
 #define SUM (3815 + 3906 + 4002)
 static const uint16_t lengths[TRACKS] = {3815, 3906, 4002};
@@ -20,8 +20,7 @@ static const size_t starts[TRACKS] = {0, 3815, 3815 + 3906};
 /* The last byte of the first track's marks; its lowest bit is spare. */
 #define LAST_MARKS (4 + 6 * TRACKS + 3815 + 477 - 1)
 
-/* Where Blank puts the data of sector 0, and how long it is here. */
-#define DATA 90
+/* How long the data of sector 0 is on each track. */
 #define DATA_LENGTH 16
 
 /* Tracks one after the other, their marks likewise, and their lengths: room for any cylinder. */
@@ -37,6 +36,7 @@ struct file {
     size_t length;
 };
 
+/* The data of sector 0 on each track. */
 static const uint8_t records[TRACKS][DATA_LENGTH + 1] = {
     "Cylinder 100 / 0", "Cylinder 100 / 1", "Cylinder 100 / 2"};
 
@@ -72,12 +72,13 @@ static void expect_same(const char *what, const void *one, const void *other, si
 
 /* One track for each head, each right behind the one before it. */
 static void make(struct cylinder *cylinder) {
+    static const uint8_t no_key[1] = {0}; /* no byte of it is lent */
     uint16_t head;
     for (head = 0; head < TRACKS; head++) {
         uint8_t *track = cylinder->tracks + starts[head];
         uint8_t *marks = cylinder->marks + starts[head];
         expect_done("blank", iso3561_blank(track, lengths[head], marks, lengths[head], 100, head,
-                                           0, 0, 0, 0, records[head], 0, records[head],
+                                           0, 0, 0, 0, no_key, 0, records[head],
                                            DATA_LENGTH));
         cylinder->lengths[head] = lengths[head];
     }
@@ -87,19 +88,17 @@ static void make(struct cylinder *cylinder) {
 
 /* The tracks to the file; its first bytes are the header and the table. */
 static void pack(const struct cylinder *cylinder, struct file *file) {
-    static const uint8_t table[] = {0x00, 0x03, 0x00, 0x00, 0x0E, 0xE7, 0x00, 0x00,
-                                    0x00, 0x16, 0x0F, 0x42, 0x00, 0x00, 0x10, 0xDA,
-                                    0x0F, 0xA2, 0x00, 0x00, 0x22, 0x05};
+    static const uint8_t table[] = {
+        0x00, 0x03, 0x00, 0x00,             /* three tracks */
+        0x0E, 0xE7, 0x00, 0x00, 0x00, 0x16, /* 3,815 bytes at 22 */
+        0x0F, 0x42, 0x00, 0x00, 0x10, 0xDA, /* 3,906 bytes at 4,314 */
+        0x0F, 0xA2, 0x00, 0x00, 0x22, 0x05, /* 4,002 bytes at 8,709 */
+    };
     uint64_t result = iso3561_cylinder_write(cylinder->tracks, SUM, cylinder->marks, SUM,
                                              cylinder->lengths, TRACKS, file->bytes,
                                              sizeof file->bytes);
-    size_t i;
     file->length = iso3561_file_length(result);
     expect("write cylinder", result, file->length, ISO3561_DONE, FILE_LENGTH);
-    for (i = 0; i < TRACKS; i++) {
-        const uint8_t *row = file->bytes + 4 + 6 * i;
-        printf("  %u bytes at %u\n", row[0] * 256u + row[1], row[4] * 256u + row[5]);
-    }
     expect_same("header and table", file->bytes, table, sizeof table);
     /* The last mark of 4,002 is the second of its byte. */
     expect_same("the last byte of marks", file->bytes + FILE_LENGTH - 1, "\x40", 1);
@@ -125,18 +124,21 @@ static int save(const char *name, const struct file *file) {
 /* The bytes from a file, which has no more than a cylinder's file can have. */
 static int load(const char *name, struct file *file) {
     FILE *stream = fopen(name, "rb");
-    int whole;
+    int longer, failed;
     if (stream == NULL) {
         perror(name);
         return 0;
     }
     file->length = fread(file->bytes, 1, sizeof file->bytes, stream);
-    whole = fgetc(stream) == EOF && !ferror(stream);
-    fclose(stream);
-    if (!whole) {
-        fprintf(stderr, "%s: not a cylinder's file\n", name);
+    longer = fgetc(stream) != EOF;
+    failed = ferror(stream);
+    if (failed) {
+        perror(name);
+    } else if (longer) {
+        fprintf(stderr, "%s: longer than a cylinder's file\n", name);
     }
-    return whole;
+    fclose(stream);
+    return !failed && !longer;
 }
 
 /* Reads the file into buffers that lend so many bytes, marks and lengths. */
@@ -147,15 +149,39 @@ static uint64_t read_into(struct cylinder *cylinder, const struct file *file,
                                  lengths_count);
 }
 
-/* Reads the file into fresh buffers: the same tracks, marks and lengths, each track with its record. */
+/* Finds each track's record in what was read; each track starts where the one before it ends. */
+static void find_records(const struct cylinder *read, size_t count) {
+    size_t start = 0, i;
+    for (i = 0; i < count; i++) {
+        const uint8_t *track = read->tracks + start, *marks = read->marks + start;
+        size_t length = read->lengths[i];
+        uint64_t found = iso3561_find(track, length, marks, length, 0, ISO3561_DATA);
+        const uint8_t *data = track + iso3561_part_start(found);
+        size_t data_length = iso3561_part_length(found);
+        expect_done("find data of sector 0", found);
+        printf("  track %zu, %zu bytes: %.*s\n", i, length, (int)data_length, (const char *)data);
+        if (i >= TRACKS || data_length != DATA_LENGTH) {
+            printf("other data than was written\n");
+            surprises++;
+        } else {
+            expect_same("the data found", data, records[i], DATA_LENGTH);
+        }
+        start += length;
+    }
+}
+
+/* Reads the file as one that is not known, into buffers for any cylinder. */
 static void unpack(const struct file *file, const struct cylinder *written) {
     static struct cylinder read, before;
     uint64_t result;
-    size_t i;
+    size_t count;
     memset(&before, 0xA5, sizeof before);
     read = before;
     result = read_into(&read, file, sizeof read.tracks, sizeof read.marks, ISO3561_MOST_TRACKS);
-    expect("read cylinder", result, iso3561_track_count(result), ISO3561_DONE, TRACKS);
+    count = iso3561_track_count(result);
+    expect("read cylinder", result, count, ISO3561_DONE, TRACKS);
+    find_records(&read, count);
+    /* Here the tracks are known: the same ones were read, and nothing behind them was written. */
     expect_same("the tracks read", read.tracks, written->tracks, SUM);
     expect_same("the marks read", read.marks, written->marks, SUM);
     expect_same("the lengths read", read.lengths, lengths, sizeof lengths);
@@ -165,19 +191,6 @@ static void unpack(const struct file *file, const struct cylinder *written) {
                 sizeof read.marks - SUM);
     expect_same("behind the lengths", read.lengths + TRACKS, before.lengths + TRACKS,
                 sizeof read.lengths - sizeof lengths);
-    for (i = 0; i < TRACKS; i++) {
-        const uint8_t *track = read.tracks + starts[i];
-        uint64_t found = iso3561_find(track, lengths[i], read.marks + starts[i], lengths[i], 0,
-                                      ISO3561_DATA);
-        expect_done("find data of sector 0", found);
-        if (iso3561_part_start(found) != DATA || iso3561_part_length(found) != DATA_LENGTH) {
-            printf("the data lies elsewhere than it was written\n");
-            surprises++;
-            continue;
-        }
-        expect_same("the data found", track + DATA, records[i], DATA_LENGTH);
-        printf("  track %zu: %.*s\n", i, DATA_LENGTH, (const char *)track + DATA);
-    }
 }
 
 /* One reading that is refused and leaves all as it was. */
@@ -216,14 +229,14 @@ static void read_damaged(const struct file *file) {
 /* One writing that is refused and leaves the file's buffer as it was. */
 static void refuse_to_write(const char *what, const struct cylinder *cylinder, size_t count,
                             size_t room, unsigned wanted_number) {
-    static struct file file, before;
+    static uint8_t file[ISO3561_LONGEST_FILE], before[ISO3561_LONGEST_FILE];
     uint64_t result;
-    memset(&before, 0xA5, sizeof before);
-    file = before;
+    memset(before, 0xA5, sizeof before);
+    memcpy(file, before, sizeof file);
     result = iso3561_cylinder_write(cylinder->tracks, SUM, cylinder->marks, SUM,
-                                    cylinder->lengths, count, file.bytes, room);
+                                    cylinder->lengths, count, file, room);
     expect(what, result, iso3561_file_length(result), wanted_number, 0);
-    expect_same("file after a refusal", &file, &before, sizeof file);
+    expect_same("file after a refusal", file, before, sizeof file);
 }
 
 /* A buffer that is too short, a mark of 2, lengths of another sum, and none. */
