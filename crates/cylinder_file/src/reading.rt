@@ -11,6 +11,8 @@ ghost use Rattle.cylinder.specs.Cylinder.{trackCount, trackCountRight, lengthsR
 ghost use Rattle.cylinder.specs.File.{tableEnd};
 ghost use Rattle.cylinder.specs.Reading.{twoBytesAt, fourBytesAt, trackCountIn, lengthIn, offsetIn, offsetDue, trackIn, marksIn, headerRight, offsetsRight, sparesClear, judgeFile, roomFor, readCylinder, cylinderRead};
 ghost use Rattle.cylinder_file.specs.Reading.{room, judgedFile};
+use crate::ENTRY;
+use crate::HEADER;
 use crate::packing;
 
 // The number in the two bytes from place p on.
@@ -38,7 +40,7 @@ fn length_in(file: &[u8], k: usize) -> usize
     ensures { λ r. ⌜ r ≡ lengthIn (now (file .entry)) k ⌝ }
     ensures { λ r. ⌜ r ≤ 65535 ⌝ }
 {
-    two_bytes_at(file, 4 + k * 6)
+    two_bytes_at(file, HEADER + k * ENTRY)
 }
 
 // The offset of track k, as the table has it.
@@ -46,7 +48,7 @@ fn offset_in(file: &[u8], k: usize) -> usize
     requires { ⌜ tableEnd (k + 1) ≤ length (now file) ⌝ }
     ensures { λ r. ⌜ r ≡ offsetIn (now (file .entry)) k ⌝ }
 {
-    four_bytes_at(file, 4 + k * 6 + 2)
+    four_bytes_at(file, HEADER + k * ENTRY + 2)
 }
 
 // Whether the number of tracks is 1 to 10.
@@ -91,7 +93,7 @@ fn offsets_right(file: &[u8], n: usize) -> bool
     requires { ⌜ (n ≤ 10) × (tableEnd n ≤ length (now file)) ⌝ }
     ensures { λ r. ⌜ r ≡ offsetsRight (now (file .entry)) ⌝ }
 {
-    let mut due = 4 + n * 6;
+    let mut due = HEADER + n * ENTRY;
     let mut i: usize = 0;
     while i < n {
         if offset_in(file, i) != due {
@@ -110,14 +112,14 @@ fn length_due(file: &[u8], n: usize) -> usize
     requires { ⌜ (n ≤ 10) × (tableEnd n ≤ length (now file)) ⌝ }
     ensures { λ r. ⌜ r ≡ offsetDue (now (file .entry)) n ⌝ }
 {
-    let mut place = 4 + n * 6;
+    let mut offset = HEADER + n * ENTRY;
     let mut i: usize = 0;
     while i < n {
         let l = length_in(file, i);
-        place = place + l + packing::packed_size(l);
+        offset = offset + l + packing::packed_size(l);
         i += 1;
     }
-    place
+    offset
 }
 
 // Whether every track's spare bits are zero.
@@ -126,16 +128,16 @@ fn spares_clear(file: &[u8], n: usize) -> bool
     requires { ⌜ (n ≤ 10) × (tableEnd n ≤ length (now file)) × (offsetDue (now file) n ≡ length (now file)) ⌝ }
     ensures { λ r. ⌜ r ≡ sparesClear (now (file .entry)) ⌝ }
 {
-    let mut place = 4 + n * 6;
+    let mut offset = HEADER + n * ENTRY;
     let mut i: usize = 0;
     while i < n {
         let l = length_in(file, i);
-        let from = place + l;
+        let from = offset + l;
         let to = from + packing::packed_size(l);
         if !packing::spare_clear(&file[from..to], l) {
             return false;
         }
-        place = to;
+        offset = to;
         i += 1;
     }
     true
@@ -153,7 +155,7 @@ fn judge_table(file: &[u8], n: usize) -> FileJudged
     requires { ⌜ (4 ≤ length (now file)) × (headerRight (now file) ≡ true) ⌝ }
     ensures { λ r. ⌜ judgedFile r ≡ judgeFile (now (file .entry)) ⌝ }
 {
-    if file.len() < 4 + n * 6 {
+    if file.len() < HEADER + n * ENTRY {
         return FileJudged::Refused(format::file_length_wrong());
     }
     if !lengths_right(file, n) {
@@ -175,7 +177,7 @@ fn judge_table(file: &[u8], n: usize) -> FileJudged
 fn judge_file(file: &[u8]) -> FileJudged
     ensures { λ r. ⌜ judgedFile r ≡ judgeFile (now (file .entry)) ⌝ }
 {
-    if file.len() < 4 {
+    if file.len() < HEADER {
         return FileJudged::Refused(format::file_length_wrong());
     }
     if !header_right(file) {
@@ -220,14 +222,14 @@ fn fill_tracks(file: &[u8], n: usize, tracks: &mut [u8])
     requires { ⌜ (judgeFile (now file) ≡ good tt) × (sumTo (lengthIn (now file)) n ≤ length (now tracks)) ⌝ }
     ensures { λ _. ⌜ now (tracks .exit) ≡ laidOver (joinTo (trackIn (now (file .entry))) n) (now (tracks .entry)) ⌝ }
 {
-    let mut place = 4 + n * 6;
+    let mut offset = HEADER + n * ENTRY;
     let mut at: usize = 0;
     let mut i: usize = 0;
     while i < n {
         let l = length_in(file, i);
-        let to = place + l;
-        bytes::copy(&file[place..to], &mut tracks[at..]);
-        place = to + packing::packed_size(l);
+        let to = offset + l;
+        bytes::copy(&file[offset..to], &mut tracks[at..]);
+        offset = to + packing::packed_size(l);
         at += l;
         i += 1;
     }
@@ -239,15 +241,15 @@ fn fill_marks(file: &[u8], n: usize, marks: &mut [u8])
     requires { ⌜ (judgeFile (now file) ≡ good tt) × (sumTo (lengthIn (now file)) n ≤ length (now marks)) ⌝ }
     ensures { λ _. ⌜ now (marks .exit) ≡ laidOver (joinTo (marksIn (now (file .entry))) n) (now (marks .entry)) ⌝ }
 {
-    let mut place = 4 + n * 6;
+    let mut offset = HEADER + n * ENTRY;
     let mut at: usize = 0;
     let mut i: usize = 0;
     while i < n {
         let l = length_in(file, i);
-        let from = place + l;
+        let from = offset + l;
         let to = from + packing::packed_size(l);
         packing::unpack(&file[from..to], l, &mut marks[at..]);
-        place = to;
+        offset = to;
         at += l;
         i += 1;
     }

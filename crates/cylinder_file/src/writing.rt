@@ -12,6 +12,8 @@ ghost use Rattle.cylinder.specs.Packed.{packed};
 ghost use Rattle.cylinder.specs.File.{twoBytes, fourBytes, storedSize, offsetOf, header, table, storedTracks, cylinderFile};
 ghost use Rattle.cylinder.specs.Writing.{writeCylinder, fileBytes};
 ghost use Rattle.cylinder_file.specs.Writing.{lent};
+use crate::ENTRY;
+use crate::HEADER;
 use crate::packing;
 use crate::reading::track_count_right;
 
@@ -74,14 +76,14 @@ fn file_length(lengths: &[u16]) -> usize
     requires { ⌜ length (now lengths) ≤ 10 ⌝ }
     ensures { λ r. ⌜ r ≡ offsetOf (length (now (lengths .entry))) (lengthOf (now (lengths .entry))) (length (now (lengths .entry))) ⌝ }
 {
-    let mut place = 4 + lengths.len() * 6;
+    let mut end = HEADER + lengths.len() * ENTRY;
     let mut i: usize = 0;
     while i < lengths.len() {
         let l = wide(lengths[i]);
-        place = place + l + packing::packed_size(l);
+        end = end + l + packing::packed_size(l);
         i += 1;
     }
-    place
+    end
 }
 
 // Writes the header of n tracks over the front of out.
@@ -113,14 +115,14 @@ fn put_table(lengths: &[u16], out: &mut [u8])
     requires { ⌜ (length (now lengths) ≤ 10) × (length (now lengths) * 6 ≤ length (now out)) ⌝ }
     ensures { λ _. ⌜ now (out .exit) ≡ laidOver (table (now (lengths .entry)) (length (now (lengths .entry)))) (now (out .entry)) ⌝ }
 {
-    let mut offset = 4 + lengths.len() * 6;
+    let mut offset = HEADER + lengths.len() * ENTRY;
     let mut p: usize = 0;
     let mut i: usize = 0;
     while i < lengths.len() {
         let l = wide(lengths[i]);
         put_entry(l, offset, &mut out[p..]);
         offset = offset + l + packing::packed_size(l);
-        p += 6;
+        p += ENTRY;
         i += 1;
     }
 }
@@ -161,9 +163,9 @@ fn put_file(tracks: &[u8], marks: &[u8], lengths: &[u16], file: &mut [u8])
     requires { ⌜ length (cylinderFile (lent (now tracks) (now marks) (now lengths))) ≤ length (now file) ⌝ }
     ensures { λ _. ⌜ now (file .exit) ≡ laidOver (cylinderFile (lent (now (tracks .entry)) (now (marks .entry)) (now (lengths .entry)))) (now (file .entry)) ⌝ }
 {
-    let first = 4 + lengths.len() * 6;
+    let first = HEADER + lengths.len() * ENTRY;
     put_header(lengths.len(), file);
-    put_table(lengths, &mut file[4..]);
+    put_table(lengths, &mut file[HEADER..]);
     put_tracks(tracks, marks, lengths, &mut file[first..]);
 }
 

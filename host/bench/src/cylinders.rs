@@ -1,7 +1,6 @@
 //! The calls for a cylinder's file over a full pack, ten tracks to a file, beside the reference and beside a plain copy.
 //!
 //! The bytes that are counted are those of the file: each call goes at least once over all of them, Read cylinder from the file and Write cylinder to it.
-//! A refused reading does not: it looks at the header, the table and the last byte of each track's marks, and its row says how fast whole files are refused.
 //! The plain copy is that of one slice of the file's length to another. It moves less: in memory each mark is a byte, and the calls judge what they move.
 
 use crate::TURNS;
@@ -14,11 +13,10 @@ const CYLINDERS: u64 = 203;
 /// Tracks of a cylinder, which are as many as a file holds.
 const TRACKS: u64 = 10;
 
-/// One cylinder in memory and as a file, the file with its last spare bit set, and buffers of the same lengths to write to.
+/// One cylinder in memory and as a file, and buffers of the same lengths to write to.
 struct Job {
     cylinder: Cylinder,
     file: Vec<u8>,
-    spoilt: Vec<u8>,
     new: Buffers,
 }
 
@@ -32,33 +30,14 @@ struct Buffers {
 /// One call on one cylinder: its answer's number, and how many tracks it read or how many bytes it wrote.
 type Call = fn(&mut Job) -> (u8, usize);
 
-/// A call's name, the number that it answers, and the call by the proved library and by the reference.
-type Row = (&'static str, u8, Call, Call);
+/// A call's name, and the call by the proved library and by the reference.
+type Row = (&'static str, Call, Call);
 
-/// Both calls, and the reading that is refused last of all for what is in the file.
-const CALLS: [Row; 3] = [
-    ("read_cylinder", 0, read_ours, read_theirs),
-    (
-        "read_cylinder, spare bit",
-        21,
-        read_spoilt_ours,
-        read_spoilt_theirs,
-    ),
-    ("write_cylinder", 0, write_ours, write_theirs),
+/// Both calls.
+const CALLS: [Row; 2] = [
+    ("read_cylinder", read_ours, read_theirs),
+    ("write_cylinder", write_ours, write_theirs),
 ];
-
-/// The file of these tracks with its last spare bit set: the lowest bit behind the marks of the last track that has spare bits.
-fn spoilt(mut file: Vec<u8>, lengths: &[u16]) -> Vec<u8> {
-    let mut end = file.len();
-    for &length in lengths.iter().rev() {
-        if length % 8 != 0 {
-            file[end - 1] |= 1;
-            break;
-        }
-        end -= usize::from(length + length / 8);
-    }
-    file
-}
 
 impl Job {
     /// The cylinder of a number, of sound tracks.
@@ -76,7 +55,6 @@ impl Job {
             file: vec![0xC3; file.len()],
         };
         Job {
-            spoilt: spoilt(file.clone(), &cylinder.lengths),
             cylinder,
             file,
             new,
@@ -94,38 +72,20 @@ fn ours(given: Result<usize, station::Answer>) -> (u8, usize) {
 
 /// Read cylinder by the proved library.
 fn read_ours(job: &mut Job) -> (u8, usize) {
-    read_one_ours(&job.file, &mut job.new.cylinder)
-}
-
-/// Read cylinder by the reference.
-fn read_theirs(job: &mut Job) -> (u8, usize) {
-    read_one_theirs(&job.file, &mut job.new.cylinder)
-}
-
-/// Read cylinder with a spare bit set, by the proved library.
-fn read_spoilt_ours(job: &mut Job) -> (u8, usize) {
-    read_one_ours(&job.spoilt, &mut job.new.cylinder)
-}
-
-/// Read cylinder with a spare bit set, by the reference.
-fn read_spoilt_theirs(job: &mut Job) -> (u8, usize) {
-    read_one_theirs(&job.spoilt, &mut job.new.cylinder)
-}
-
-/// One file read by the proved library.
-fn read_one_ours(file: &[u8], new: &mut Cylinder) -> (u8, usize) {
+    let new = &mut job.new.cylinder;
     ours(station::read_cylinder(
-        file,
+        &job.file,
         &mut new.tracks,
         &mut new.marks,
         &mut new.lengths,
     ))
 }
 
-/// One file read by the reference.
-fn read_one_theirs(file: &[u8], new: &mut Cylinder) -> (u8, usize) {
+/// Read cylinder by the reference.
+fn read_theirs(job: &mut Job) -> (u8, usize) {
+    let new = &mut job.new.cylinder;
     let (answer, count) =
-        reference::read_cylinder(file, &mut new.tracks, &mut new.marks, &mut new.lengths);
+        reference::read_cylinder(&job.file, &mut new.tracks, &mut new.marks, &mut new.lengths);
     (answer.number, count)
 }
 
@@ -163,21 +123,21 @@ fn time(jobs: &mut [Job], call: Call) -> Duration {
     start.elapsed()
 }
 
-/// Demands that both answer this number and give and write the same.
-fn compare(jobs: &mut [Job], wanted: u8, ours: Call, theirs: Call) {
+/// Demands that both do what is asked and give and write the same.
+fn compare(jobs: &mut [Job], ours: Call, theirs: Call) {
     for (number, job) in jobs.iter_mut().enumerate() {
         let before = job.new.clone();
         let given = ours(job);
         let written = std::mem::replace(&mut job.new, before);
         assert_eq!(given, theirs(job), "cylinder {number}");
-        assert_eq!(given.0, wanted, "cylinder {number}");
+        assert_eq!(given.0, 0, "cylinder {number}");
         assert!(written == job.new, "written buffers, cylinder {number}");
     }
 }
 
 /// One line of the table.
-fn measure(jobs: &mut [Job], (name, wanted, ours, theirs): Row) {
-    compare(jobs, wanted, ours, theirs);
+fn measure(jobs: &mut [Job], (name, ours, theirs): Row) {
+    compare(jobs, ours, theirs);
     let bytes: usize = jobs.iter().map(|job| job.file.len()).sum();
     let mut best = [Duration::MAX; 3];
     for _ in 0..TURNS {
@@ -198,9 +158,9 @@ fn measure(jobs: &mut [Job], (name, wanted, ours, theirs): Row) {
     );
 }
 
-/// One line for each row.
+/// One line for each call.
 pub fn measure_all() {
-    println!("{CYLINDERS} files of {TRACKS} tracks, best of {TURNS} turns; MB/s are millions of the file's bytes a second, ratios are of the times");
+    println!("{CYLINDERS} files of {TRACKS} tracks, best of {TURNS} turns; the file's bytes in millions a second, ratios of the times");
     println!(
         "{:<28} {:>9} {:>9} {:>9} {:>9} {:>7}",
         "", "MB/s", "(ref.)", "(copy)", "to ref.", "to copy"

@@ -16,24 +16,24 @@ use Rattle.cylinder_file.proofs.Pieces.{table-in, piece-in, marks-cut}
 use Rattle.cylinder_file.proofs.reading.fill_marks.Statement.{statement}
 use Rattle.cylinder_file.proofs.reading.fill_marks.Tie as tie
 
--- What holds at each turn: track i is due at the place, and the marks of those before it are written.
+-- What holds at each turn: track i is due at the offset, and the marks of those before it are written.
 abbrev Inv-loop : tie.InvT-loop
-Inv-loop file n marks₀ place₀ at₀ i₀ marks place at i =
-    (i ≤ n) × (place ≡ offsetDue file i) × (at ≡ sumTo (lengthIn file) i) × (length marks ≡ length marks₀)
+Inv-loop file n marks₀ offset₀ at₀ i₀ marks offset at i =
+    (i ≤ n) × (offset ≡ offsetDue file i) × (at ≡ sumTo (lengthIn file) i) × (length marks ≡ length marks₀)
     × (marks ≡ laidOver (joinTo (marksIn file) i) marks₀)
 
 -- What falls with each turn: the number of tracks left.
 abbrev μ-loop : tie.MeasureT-loop
-μ-loop file n marks₀ place₀ at₀ i₀ marks place at i = n - i
+μ-loop file n marks₀ offset₀ at₀ i₀ marks offset at i = n - i
 
-mul-place : tie.Need-mul-place Inv-loop μ-loop
-mul-place c =
+mul-offset : tie.Need-mul-offset Inv-loop μ-loop
+mul-offset c =
     let s = c .before .before in
     let h = table-in (s .args .file .now) (s .args .n) (s .pre .0) (s .pre .1 .0) in
     search needs
 
-add-place : tie.Need-add-place Inv-loop μ-loop
-add-place c =
+add-offset : tie.Need-add-offset Inv-loop μ-loop
+add-offset c =
     let s = c .before .before in
     let h = table-in (s .args .file .now) (s .args .n) (s .pre .0) (s .pre .1 .0) in
     search needs
@@ -97,7 +97,7 @@ unpack-requires c κs =
     let l = c .before .before .before .before .before .loop in
     let n = c .before .before .before .length-in in
     let z = c .before .before .packed-size in (
-      omega (arith, z .ensures .0, cut-length (l .place + n .result) (z .result) (s .args .file .now) (omega (arith, n .ensures .0, z .ensures .0))),
+      omega (arith, z .ensures .0, cut-length (l .offset + n .result) (z .result) (s .args .file .now) (omega (arith, n .ensures .0, z .ensures .0))),
       omega (arith, n .ensures .0, part-all-length (l .at) (l .marks)),
     )
 
@@ -123,7 +123,7 @@ loop-again c =
     let p = c .before .before .before .before .before .before .before .before .before .before .before .pre in
     let h = piece-in f (a .n) (l .i) (p .0) (p .1 .0) (omega arith) in
     let put = c .before .before .unpack in
-    let w = rw (marks-cut f (l .i) (l .place) (n .result) (s .result) (l .inv .1) (n .ensures .0) (s .ensures .0)) at (put .ensures) in
+    let w = rw (marks-cut f (l .i) (l .offset) (n .result) (s .result) (l .inv .1) (n .ensures .0) (s .ensures .0)) at (put .ensures) in
     let m = fill-more (marksIn f) (lengthIn f) (l .i) (l .at) (a .marks .now) (l .marks) (put .last .1 .1 .0) (l .inv .2)
     (λ j b. length-marks f j) (omega (arith, p .1 .1)) (l .inv .4) w in (
       omega arith,
@@ -145,5 +145,5 @@ returns c =
 pub fill-marks-spec : {M : Type 1} → statement M
 fill-marks-spec =
     tie.close
-    (tie.spec Inv-loop μ-loop mul-place add-place loop-holds length-in-requires add-from packed-size-requires add-to sub-unpack part-unpack-start part-unpack-end sub-unpack-2
+    (tie.spec Inv-loop μ-loop mul-offset add-offset loop-holds length-in-requires add-from packed-size-requires add-to sub-unpack part-unpack-start part-unpack-end sub-unpack-2
     part-unpack-start-2 part-unpack-end-2 unpack-requires add-at add-i loop-less loop-again same-length returns)

@@ -16,24 +16,24 @@ use Rattle.cylinder_file.proofs.Pieces.{table-in, piece-in, track-cut}
 use Rattle.cylinder_file.proofs.reading.fill_tracks.Statement.{statement}
 use Rattle.cylinder_file.proofs.reading.fill_tracks.Tie as tie
 
--- What holds at each turn: track i is due at the place, and the bytes of those before it are written.
+-- What holds at each turn: track i is due at the offset, and the bytes of those before it are written.
 abbrev Inv-loop : tie.InvT-loop
-Inv-loop file n tracks₀ place₀ at₀ i₀ tracks place at i =
-    (i ≤ n) × (place ≡ offsetDue file i) × (at ≡ sumTo (lengthIn file) i) × (length tracks ≡ length tracks₀)
+Inv-loop file n tracks₀ offset₀ at₀ i₀ tracks offset at i =
+    (i ≤ n) × (offset ≡ offsetDue file i) × (at ≡ sumTo (lengthIn file) i) × (length tracks ≡ length tracks₀)
     × (tracks ≡ laidOver (joinTo (trackIn file) i) tracks₀)
 
 -- What falls with each turn: the number of tracks left.
 abbrev μ-loop : tie.MeasureT-loop
-μ-loop file n tracks₀ place₀ at₀ i₀ tracks place at i = n - i
+μ-loop file n tracks₀ offset₀ at₀ i₀ tracks offset at i = n - i
 
-mul-place : tie.Need-mul-place Inv-loop μ-loop
-mul-place c =
+mul-offset : tie.Need-mul-offset Inv-loop μ-loop
+mul-offset c =
     let s = c .before .before in
     let h = table-in (s .args .file .now) (s .args .n) (s .pre .0) (s .pre .1 .0) in
     search needs
 
-add-place : tie.Need-add-place Inv-loop μ-loop
-add-place c =
+add-offset : tie.Need-add-offset Inv-loop μ-loop
+add-offset c =
     let s = c .before .before in
     let h = table-in (s .args .file .now) (s .args .n) (s .pre .0) (s .pre .1 .0) in
     search needs
@@ -87,13 +87,13 @@ copy-requires c κs =
     let h = piece-in (s .args .file .now) (s .args .n) (c .before .before .before .before .loop .i) (s .pre .0) (s .pre .1 .0) (omega arith) in
     let l = c .before .before .before .before .loop in
     let n = c .before .before .length-in in
-    omega (arith, n .ensures .0, cut-length (l .place) (n .result) (s .args .file .now) (omega (arith, n .ensures .0)), part-all-length (l .at) (l .tracks))
+    omega (arith, n .ensures .0, cut-length (l .offset) (n .result) (s .args .file .now) (omega (arith, n .ensures .0)), part-all-length (l .at) (l .tracks))
 
 packed-size-requires : tie.Need-packed-size-requires Inv-loop μ-loop
 packed-size-requires c κs = search needs
 
-add-place-2 : tie.Need-add-place-2 Inv-loop μ-loop
-add-place-2 c =
+add-offset-2 : tie.Need-add-offset-2 Inv-loop μ-loop
+add-offset-2 c =
     let s = c .before .before .before .before .before .before .before .before .before .before .before in
     let h = piece-in (s .args .file .now) (s .args .n) (c .before .before .before .before .before .before .before .before .loop .i) (s .pre .0) (s .pre .1 .0) (omega arith) in
     search needs
@@ -119,7 +119,7 @@ loop-again c =
     let p = c .before .before .before .before .before .before .before .before .before .before .before .pre in
     let h = piece-in f (a .n) (l .i) (p .0) (p .1 .0) (omega arith) in
     let put = c .before .before .before .copy in
-    let cut = track-cut f (l .i) (l .place) (n .result) (l .inv .1) (n .ensures .0) in
+    let cut = track-cut f (l .i) (l .offset) (n .result) (l .inv .1) (n .ensures .0) in
     let w = copy-over _ (trackIn f (l .i)) (take (length (l .tracks) - l .at) (drop (l .at) (l .tracks))) _ cut (put .ensures .1) in
     let m = fill-more (trackIn f) (lengthIn f) (l .i) (l .at) (a .tracks .now) (l .tracks) (put .last .1 .0) (l .inv .2)
     (λ j b. length-track f (file-sound f (p .1 .0)) j (omega (arith, p .0))) (omega (arith, p .1 .1)) (l .inv .4) w in (
@@ -142,5 +142,5 @@ returns c =
 pub fill-tracks-spec : {M : Type 1} → statement M
 fill-tracks-spec =
     tie.close
-    (tie.spec Inv-loop μ-loop mul-place add-place loop-holds length-in-requires add-to sub-copy part-copy-start part-copy-end sub-copy-2 part-copy-start-2 part-copy-end-2 copy-requires
-    packed-size-requires add-place-2 add-at add-i loop-less loop-again same-length returns)
+    (tie.spec Inv-loop μ-loop mul-offset add-offset loop-holds length-in-requires add-to sub-copy part-copy-start part-copy-end sub-copy-2 part-copy-start-2 part-copy-end-2 copy-requires
+    packed-size-requires add-offset-2 add-at add-i loop-less loop-again same-length returns)

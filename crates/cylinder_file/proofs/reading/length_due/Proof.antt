@@ -1,4 +1,4 @@
--- `length_due` meets its contract: the place is that at which the next track is due.
+-- `length_due` meets its contract: the offset at which the next track is due.
 use mathlib.Core.Path.{_≡_}
 use Prim.Native.Nat.{_+_, _-_, _*_, _≤_}
 use native.Mathlib.Omega.{arith}
@@ -8,19 +8,19 @@ use Rattle.cylinder.proofs.Sound.{due-first, due-next}
 use Rattle.cylinder_file.proofs.reading.length_due.Statement.{statement}
 use Rattle.cylinder_file.proofs.reading.length_due.Tie as tie
 
--- What holds at each turn: track i is due at the place.
+-- What holds at each turn: track i is due at the offset.
 abbrev Inv-loop : tie.InvT-loop
-Inv-loop file n place₀ i₀ place i = (i ≤ n) × (place ≡ offsetDue file i) × (place ≤ 64 + i * 73727)
+Inv-loop file n offset₀ i₀ offset i = (i ≤ n) × (offset ≡ offsetDue file i) × (offset ≤ 64 + i * 73727)
 
 -- What falls with each turn: the number of tracks left.
 abbrev μ-loop : tie.MeasureT-loop
-μ-loop file n place₀ i₀ place i = n - i
+μ-loop file n offset₀ i₀ offset i = n - i
 
-mul-place : tie.Need-mul-place Inv-loop μ-loop
-mul-place c = search needs
+mul-offset : tie.Need-mul-offset Inv-loop μ-loop
+mul-offset c = search needs
 
-add-place : tie.Need-add-place Inv-loop μ-loop
-add-place c = search needs
+add-offset : tie.Need-add-offset Inv-loop μ-loop
+add-offset c = search needs
 
 loop-holds : tie.Need-loop-holds Inv-loop μ-loop
 loop-holds c = (omega arith, omega (arith, due-first (c .before .args .file .now), c .before .pre .0), omega arith)
@@ -28,14 +28,14 @@ loop-holds c = (omega arith, omega (arith, due-first (c .before .args .file .now
 length-in-requires : tie.Need-length-in-requires Inv-loop μ-loop
 length-in-requires c κs = search needs
 
-add-place-2 : tie.Need-add-place-2 Inv-loop μ-loop
-add-place-2 c = search needs
+add-offset-2 : tie.Need-add-offset-2 Inv-loop μ-loop
+add-offset-2 c = search needs
 
 packed-size-requires : tie.Need-packed-size-requires Inv-loop μ-loop
 packed-size-requires c κs = search needs
 
-add-place-3 : tie.Need-add-place-3 Inv-loop μ-loop
-add-place-3 c = search needs
+add-offset-3 : tie.Need-add-offset-3 Inv-loop μ-loop
+add-offset-3 c = search needs
 
 add-i : tie.Need-add-i Inv-loop μ-loop
 add-i c = search needs
@@ -62,4 +62,4 @@ returns c =
 pub length-due-spec : {M : Type 1} → statement M
 length-due-spec =
     tie.close
-    (tie.spec Inv-loop μ-loop mul-place add-place loop-holds length-in-requires add-place-2 packed-size-requires add-place-3 add-i loop-less loop-again returns)
+    (tie.spec Inv-loop μ-loop mul-offset add-offset loop-holds length-in-requires add-offset-2 packed-size-requires add-offset-3 add-i loop-less loop-again returns)

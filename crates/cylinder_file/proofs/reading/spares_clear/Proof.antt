@@ -16,19 +16,19 @@ use Rattle.cylinder_file.proofs.Pieces.{spare-cut}
 use Rattle.cylinder_file.proofs.reading.spares_clear.Statement.{statement}
 use Rattle.cylinder_file.proofs.reading.spares_clear.Tie as tie
 
--- What holds at each turn: track i is due at the place, and the spare bits of those before it are zero.
+-- What holds at each turn: track i is due at the offset, and the spare bits of those before it are zero.
 abbrev Inv-loop : tie.InvT-loop
-Inv-loop file n place₀ i₀ place i = (i ≤ n) × (place ≡ offsetDue file i) × (allTo (λ k. spareClear (lengthIn file k) (packedIn file k)) i ≡ true)
+Inv-loop file n offset₀ i₀ offset i = (i ≤ n) × (offset ≡ offsetDue file i) × (allTo (λ k. spareClear (lengthIn file k) (packedIn file k)) i ≡ true)
 
 -- What falls with each turn: the number of tracks left.
 abbrev μ-loop : tie.MeasureT-loop
-μ-loop file n place₀ i₀ place i = n - i
+μ-loop file n offset₀ i₀ offset i = n - i
 
-mul-place : tie.Need-mul-place Inv-loop μ-loop
-mul-place c = search needs
+mul-offset : tie.Need-mul-offset Inv-loop μ-loop
+mul-offset c = search needs
 
-add-place : tie.Need-add-place Inv-loop μ-loop
-add-place c = search needs
+add-offset : tie.Need-add-offset Inv-loop μ-loop
+add-offset c = search needs
 
 loop-holds : tie.Need-loop-holds Inv-loop μ-loop
 unfolding allTo
@@ -71,7 +71,7 @@ spare-clear-requires c κs =
     let n = c .before .before .length-in in
     let s = c .before .packed-size in
     let d = due-within f (c .before .before .before .before .before .before .args .n) (l .i) (omega arith) in
-    (n .ensures .1, cut-length (l .place + n .result) (s .result) f (omega (arith, n .ensures .0, s .ensures .0)) ∙ s .ensures .0)
+    (n .ensures .1, cut-length (l .offset + n .result) (s .result) f (omega (arith, n .ensures .0, s .ensures .0)) ∙ s .ensures .0)
 
 returns : tie.Need-returns Inv-loop μ-loop
 unfolding sparesClear
@@ -80,7 +80,7 @@ returns c =
     let l = c .before .before .before .before .before .before .loop in
     let n = c .before .before .before .before .length-in in
     let s = c .before .before .before .packed-size in
-    let e = sym (c .before .spare-clear .ensures ∙ spare-cut f (l .i) (l .place) (n .result) (s .result) (l .inv .1) (n .ensures .0) (s .ensures .0)) ∙ not-true _ (c .if1 .taken) in
+    let e = sym (c .before .spare-clear .ensures ∙ spare-cut f (l .i) (l .offset) (n .result) (s .result) (l .inv .1) (n .ensures .0) (s .ensures .0)) ∙ not-true _ (c .if1 .taken) in
     sym (one-fails (λ k. spareClear (lengthIn f k) (packedIn f k)) (trackCountIn f) (l .i) (omega (arith, c .before .before .before .before .before .before .before .before .pre .0)) e)
 
 add-i : tie.Need-add-i Inv-loop μ-loop
@@ -95,7 +95,7 @@ loop-again c =
     let l = c .before .before .before .before .before .before .loop in
     let n = c .before .before .before .before .length-in in
     let s = c .before .before .before .packed-size in
-    let e = sym (c .before .spare-clear .ensures ∙ spare-cut f (l .i) (l .place) (n .result) (s .result) (l .inv .1) (n .ensures .0) (s .ensures .0)) ∙ not-false _ (c .if1 .left) in (
+    let e = sym (c .before .spare-clear .ensures ∙ spare-cut f (l .i) (l .offset) (n .result) (s .result) (l .inv .1) (n .ensures .0) (s .ensures .0)) ∙ not-false _ (c .if1 .left) in (
       omega arith,
       omega (arith, due-next f (l .i), n .ensures .0, s .ensures .0),
       all-next (λ k. spareClear (lengthIn f k) (packedIn f k)) (l .i) ∙ and-make (l .inv .2) e,
@@ -111,5 +111,5 @@ returns-2 c =
 pub spares-clear-spec : {M : Type 1} → statement M
 spares-clear-spec =
     tie.close
-    (tie.spec Inv-loop μ-loop mul-place add-place loop-holds length-in-requires add-from packed-size-requires add-to sub-spare-clear part-spare-clear-start part-spare-clear-end
+    (tie.spec Inv-loop μ-loop mul-offset add-offset loop-holds length-in-requires add-from packed-size-requires add-to sub-spare-clear part-spare-clear-start part-spare-clear-end
     spare-clear-requires returns add-i loop-less loop-again returns-2)

@@ -12,19 +12,19 @@ use Rattle.cylinder.proofs.Sound.{offset-next}
 use Rattle.cylinder_file.proofs.writing.file_length.Statement.{statement}
 use Rattle.cylinder_file.proofs.writing.file_length.Tie as tie
 
--- What holds at each turn: track i would start at the place.
+-- What holds at each turn: track i would start at the end.
 abbrev Inv-loop : tie.InvT-loop
-Inv-loop lengths place₀ i₀ place i = (i ≤ length lengths) × (place ≡ offsetOf (length lengths) (lengthOf lengths) i) × (place ≤ 64 + i * 73727)
+Inv-loop lengths end₀ i₀ end i = (i ≤ length lengths) × (end ≡ offsetOf (length lengths) (lengthOf lengths) i) × (end ≤ 64 + i * 73727)
 
 -- What falls with each turn: the number of tracks left.
 abbrev μ-loop : tie.MeasureT-loop
-μ-loop lengths place₀ i₀ place i = length lengths - i
+μ-loop lengths end₀ i₀ end i = length lengths - i
 
-mul-place : tie.Need-mul-place Inv-loop μ-loop
-mul-place c = search needs
+mul-end : tie.Need-mul-end Inv-loop μ-loop
+mul-end c = search needs
 
-add-place : tie.Need-add-place Inv-loop μ-loop
-add-place c = search needs
+add-end : tie.Need-add-end Inv-loop μ-loop
+add-end c = search needs
 
 loop-holds : tie.Need-loop-holds Inv-loop μ-loop
 unfolding offsetOf sumTo
@@ -39,14 +39,14 @@ shared-slice-read-wide c = search needs
 wide-requires : tie.Need-wide-requires Inv-loop μ-loop
 wide-requires c κs = search needs
 
-add-place-2 : tie.Need-add-place-2 Inv-loop μ-loop
-add-place-2 c = search needs
+add-end-2 : tie.Need-add-end-2 Inv-loop μ-loop
+add-end-2 c = search needs
 
 packed-size-requires : tie.Need-packed-size-requires Inv-loop μ-loop
 packed-size-requires c κs = search needs
 
-add-place-3 : tie.Need-add-place-3 Inv-loop μ-loop
-add-place-3 c = search needs
+add-end-3 : tie.Need-add-end-3 Inv-loop μ-loop
+add-end-3 c = search needs
 
 add-i : tie.Need-add-i Inv-loop μ-loop
 add-i c = search needs
@@ -71,4 +71,4 @@ returns c =
 pub file-length-spec : {M : Type 1} → statement M
 file-length-spec =
     tie.close
-    (tie.spec Inv-loop μ-loop mul-place add-place loop-holds mul-wide shared-slice-read-wide wide-requires add-place-2 packed-size-requires add-place-3 add-i loop-less loop-again returns)
+    (tie.spec Inv-loop μ-loop mul-end add-end loop-holds mul-wide shared-slice-read-wide wide-requires add-end-2 packed-size-requires add-end-3 add-i loop-less loop-again returns)
