@@ -1,4 +1,4 @@
--- The laws of a cylinder's file: packed marks, lengths, what is known of a file that is read, the round trip, and the answers.
+-- The laws of a cylinder's file: packed marks, lengths, what is known of a file that is read, the round trip, the answers, and worked values.
 pub mod Packed
 pub mod Sizes
 pub mod Sound
@@ -12,3 +12,4 @@ pub mod Tells
 pub mod Answers
 pub mod Places
 pub mod Bounds
+pub mod Worked
