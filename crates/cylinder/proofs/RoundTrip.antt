@@ -17,16 +17,12 @@ use Rattle.format.proofs.Base.Judged.{good-inj, then-good, require-good}
 use Rattle.cylinder.specs.Cylinder.{Cylinder, trackCount, startOf, trackCountRight, cylinderLent}
 use Rattle.cylinder.specs.File.{cylinderFile}
 use Rattle.cylinder.specs.Writing.{writeCylinder}
-use Rattle.cylinder.specs.Reading.{lengthIn, judgeFile, cylinderIn, Room, roomFor, readCylinder}
+use Rattle.cylinder.specs.Reading.{lengthIn, judgeFile, cylinderIn, Room, Takes, roomFor, readCylinder}
 use Rattle.cylinder.proofs.Sound.{SoundFile, file-sound, sound-file}
 use Rattle.cylinder.proofs.Sizes.{Lent, cylinder-lent}
 use Rattle.cylinder.proofs.WrittenFile.{count-read, length-read, cylinder-read, file-read}
 use Rattle.cylinder.proofs.FileBytes.{file-bytes}
 use Rattle.cylinder.proofs.HeldCylinder.{lent-held, count-held, file-back}
-
--- What is lent to be filled is enough for the cylinder.
-abbrev pub RoomFor : Cylinder → Room → Type 0
-RoomFor c r = (length (c .tracks) ≤ r .tracks) × (length (c .marks) ≤ r .marks) × (length (c .lengths) ≤ r .lengths)
 
 -- What is written of a cylinder that is lent within the rule is its file,
 pub lent-write : (c : Cylinder) (room : ℕ) → trackCountRight (trackCount c) ≡ true → cylinderLent c ≡ true → length (cylinderFile c) ≤ room → writeCylinder c room ≡ good (cylinderFile c)
@@ -51,7 +47,7 @@ read-sound f r c e =
     (file-sound f (a .1), good-inj (cylinderIn f) c (b .1))
 
 -- The file of a cylinder that is lent within the rule is read as that cylinder.
-file-reads : (c : Cylinder) (r : Room) → trackCountRight (trackCount c) ≡ true → cylinderLent c ≡ true → RoomFor c r → readCylinder (cylinderFile c) r ≡ good c
+file-reads : (c : Cylinder) (r : Room) → trackCountRight (trackCount c) ≡ true → cylinderLent c ≡ true → Takes r c → readCylinder (cylinderFile c) r ≡ good c
 unfolding readCylinder roomFor
 file-reads c r n e h =
     let lent : Lent c = cylinder-lent c e in
@@ -62,7 +58,7 @@ file-reads c r n e h =
     rw (sound-file (cylinderFile c) (file-read c lent n), room) (ap good (cylinder-read c e))
 
 -- What was written is read as the same cylinder.
-pub write-read : (c : Cylinder) (room : ℕ) (f : List ℕ) (r : Room) → writeCylinder c room ≡ good f → RoomFor c r → readCylinder f r ≡ good c
+pub write-read : (c : Cylinder) (room : ℕ) (f : List ℕ) (r : Room) → writeCylinder c room ≡ good f → Takes r c → readCylinder f r ≡ good c
 write-read c room f r e h =
     let w = write-lent c room f e in
     rw (← (w .2)) (file-reads c r (w .0) (w .1) h)
@@ -84,7 +80,7 @@ read-write f r c room b e h =
     let q = read-file f r c b e in
     lent-write c room (l .0) (l .1) (subst (λ (z : List ℕ). length z ≤ room) q h) ∙ ap good (sym q)
 
--- Exactly one file of bytes is read as a cylinder of one to ten tracks of bytes that is lent within the rule.
-pub one-file : (c : Cylinder) (r : Room) → trackCountRight (trackCount c) ≡ true → cylinderLent c ≡ true → AllBytes (c .tracks) → RoomFor c r
-    → AllBytes (cylinderFile c) × (readCylinder (cylinderFile c) r ≡ good c) × ((f : List ℕ) → AllBytes f → readCylinder f r ≡ good c → f ≡ cylinderFile c)
-one-file c r n e b h = (file-bytes c n e b, file-reads c r n e h, λ f a g. read-file f r c a g)
+-- A cylinder of one to ten tracks of bytes that is lent within the rule has a file of bytes that is read as it, and with any room no other file of bytes is.
+pub one-file : (c : Cylinder) (r : Room) → trackCountRight (trackCount c) ≡ true → cylinderLent c ≡ true → AllBytes (c .tracks) → Takes r c
+    → AllBytes (cylinderFile c) × (readCylinder (cylinderFile c) r ≡ good c) × ((f : List ℕ) (q : Room) → AllBytes f → readCylinder f q ≡ good c → f ≡ cylinderFile c)
+one-file c r n e b h = (file-bytes c n e b, file-reads c r n e h, λ f q a g. read-file f q c a g)

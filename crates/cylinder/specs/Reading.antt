@@ -1,5 +1,5 @@
 -- Reading: from the file of a cylinder to its tracks, marks and Ls.
-use Prim.Native.Nat.{ℕ, _+_, _*_}
+use Prim.Native.Nat.{ℕ, _+_, _*_, _≤_}
 use mathlib.Core.Bool.{Bool, _&&_}
 use mathlib.Core.List.{List, []}
 use lib.ListN.{length, take, drop, getD}
@@ -81,13 +81,17 @@ cylinderIn f =
       lengths = listTo (lengthIn f) (trackCountIn f);
     }
 
--- The lengths of what is lent to be filled: of tracks, of marks, and of the list of Ls.
+-- The lengths of what is lent for writing: of tracks, of marks, and of the list of Ls.
 pub record Room : Type 0 where
   pub tracks : ℕ
   pub marks : ℕ
   pub lengths : ℕ
 
--- They are enough for the cylinder that a file holds.
+-- What is lent for writing takes the whole cylinder.
+abbrev pub Takes : Room → Cylinder → Type 0
+Takes r c = (length (c .tracks) ≤ r .tracks) × (length (c .marks) ≤ r .marks) × (length (c .lengths) ≤ r .lengths)
+
+-- What is lent for writing is long enough for the cylinder that a file holds.
 unfoldable pub roomFor : List ℕ → Room → Bool
 roomFor f r =
     leb (sumTo (lengthIn f) (trackCountIn f)) (r .tracks)
