@@ -69,7 +69,7 @@ module _ (f : List ℕ) (s : SoundFile f) where
   length-track k h = part-length (offsetDue f k) (lengthIn f k) f (omega (arith, piece-within f s k h))
 
   -- The cylinder has as many tracks as the file names,
-  held-count : trackCount (cylinderIn f) ≡ trackCountIn f
+  pub held-count : trackCount (cylinderIn f) ≡ trackCountIn f
   held-count = length-list (lengthIn f) (trackCountIn f)
 
   -- of the same Ls,

@@ -1,6 +1,6 @@
 -- A cylinder that is written is read as the same cylinder, and a file that is read is written as the same file.
 use mathlib.Core.Path.{_≡_, sym, ap, _∙_, subst}
-use Prim.Native.Nat.{ℕ, _≤_}
+use Prim.Native.Nat.{ℕ, _≤_, _<_}
 use native.Mathlib.Omega.{arith}
 use mathlib.Core.Bool.{true}
 use mathlib.Core.List.{List}
@@ -14,15 +14,15 @@ use Rattle.crc.specs.Halves.{AllBytes}
 use Rattle.format.specs.Answer.{lentWrong, headerWrong, bufferTooShort}
 use Rattle.format.specs.Judged.{good, require}
 use Rattle.format.proofs.Base.Judged.{good-inj, then-good, require-good}
-use Rattle.cylinder.specs.Cylinder.{Cylinder, trackCount, startOf, trackCountRight, cylinderLent}
+use Rattle.cylinder.specs.Cylinder.{Cylinder, trackCount, startOf, trackOf, trackMarksOf, trackCountRight, cylinderLent}
 use Rattle.cylinder.specs.File.{cylinderFile}
 use Rattle.cylinder.specs.Writing.{writeCylinder}
-use Rattle.cylinder.specs.Reading.{lengthIn, judgeFile, cylinderIn, Room, Takes, roomFor, readCylinder}
+use Rattle.cylinder.specs.Reading.{lengthIn, trackIn, marksIn, judgeFile, cylinderIn, Room, Takes, roomFor, readCylinder}
 use Rattle.cylinder.proofs.Sound.{SoundFile, file-sound, sound-file}
 use Rattle.cylinder.proofs.Sizes.{Lent, cylinder-lent}
 use Rattle.cylinder.proofs.WrittenFile.{count-read, length-read, cylinder-read, file-read}
 use Rattle.cylinder.proofs.FileBytes.{file-bytes}
-use Rattle.cylinder.proofs.HeldCylinder.{lent-held, count-held, file-back}
+use Rattle.cylinder.proofs.HeldCylinder.{held-count, track-held, lent-held, count-held, file-back}
 
 -- What is written of a cylinder that is lent within the rule is its file,
 pub lent-write : (c : Cylinder) (room : ℕ) → trackCountRight (trackCount c) ≡ true → cylinderLent c ≡ true → length (cylinderFile c) ≤ room → writeCylinder c room ≡ good (cylinderFile c)
@@ -68,6 +68,13 @@ pub read-lent : (f : List ℕ) (r : Room) (c : Cylinder) → readCylinder f r �
 read-lent f r c e =
     let a = read-sound f r c e in
     subst (λ (z : Cylinder). (trackCountRight (trackCount z) ≡ true) × (cylinderLent z ≡ true)) (a .1) (count-held f (a .0), lent-held f (a .0))
+
+-- Each track of what is read is the one in the file, and so are its marks.
+pub read-tracks : (f : List ℕ) (r : Room) (c : Cylinder) → readCylinder f r ≡ good c → (k : ℕ) → k < trackCount c → (trackOf c k ≡ trackIn f k) × (trackMarksOf c k ≡ marksIn f k)
+read-tracks f r c e k h =
+    let a = read-sound f r c e in
+    let l : k < trackCount (cylinderIn f) = subst (λ (z : Cylinder). k < trackCount z) (sym (a .1)) h in
+    subst (λ (z : Cylinder). (trackOf z k ≡ trackIn f k) × (trackMarksOf z k ≡ marksIn f k)) (a .1) (track-held f (a .0) k (omega (arith, held-count f (a .0))))
 
 -- What is read is the cylinder whose file was read.
 read-file : (f : List ℕ) (r : Room) (c : Cylinder) → AllBytes f → readCylinder f r ≡ good c → f ≡ cylinderFile c
