@@ -4,26 +4,26 @@ use Prim.Native.Nat.{ℕ, suc, _+_, _*_, _/_, _%_, _≤_, _<_}
 use native.Mathlib.Omega.{arith}
 use native.Mathlib.Numerals.{add-one}
 use mathlib.Core.Bool.{true}
-use mathlib.Core.List.{List, [], _∷_, _++_, append-nil}
+use mathlib.Core.List.{List, [], _∷_, _++_}
 use lib.ListN.{length, take, drop, getD, take-append-drop, length-drop}
 use lib.Seq.{take-all, take-add, drop-drop, drop-cons}
 use lib.Dec.{eqb}
-use borrow.Author.Tests.{eqb-true, eq-eqb}
+use borrow.Author.Tests.{eqb-true}
 use Rattle.base.specs.Indexed.{sumTo, joinTo}
-use Rattle.base.proofs.Indexed.{sum-same, sum-const, all-same, all-holds, length-join, join-part, join-same, join-cut, length-list, getD-list}
+use Rattle.base.proofs.Indexed.{sum-same, sum-const, all-holds, join-same, join-cut, length-list}
 use Rattle.base.proofs.Lists.{part-length}
-use Rattle.base.proofs.Tests.{and-both, and-make}
+use Rattle.base.proofs.Tests.{and-both}
 use Rattle.crc.specs.Halves.{AllBytes}
 use Rattle.crc.proofs.Bytes.{all-bytes, byte-at}
 use Rattle.format.specs.Lent.{lengthRight}
-use Rattle.format.proofs.Base.Marks.{mark-at, marks-at}
-use Rattle.cylinder.specs.Cylinder.{trackCount, lengthOf, startOf, partOf, trackOf, trackMarksOf, trackCountRight, lengthsRight, cylinderLent}
+use Rattle.cylinder.specs.Cylinder.{trackCount, lengthOf, trackOf, trackMarksOf, trackCountRight, lengthsRight, cylinderLent}
 use Rattle.cylinder.specs.Packed.{packedSize, packed, spareClear}
 use Rattle.cylinder.specs.File.{twoBytes, fourBytes, headerLength, entryLength, tableEnd, storedSize, offsetOf, header, entry, table, storedTrack, storedTracks, cylinderFile}
 use Rattle.cylinder.specs.Reading.{twoBytesAt, fourBytesAt, trackCountIn, zeroField, lengthIn, offsetIn, offsetDue, trackIn, packedIn, marksIn, headerRight, offsetsRight, sparesClear, cylinderIn}
 use Rattle.cylinder.proofs.Sound.{SoundFile, piece-within}
 use Rattle.cylinder.proofs.Packed.{length-unpacked, packed-unpacked, unpacked-legal}
-use Rattle.cylinder.proofs.Parts.{join-keeps, part-keeps, part-joined}
+use Rattle.cylinder.proofs.Parts.{part-keeps, part-joined}
+use Rattle.cylinder.proofs.CylinderParts.{listed-length, part-listed, listed-lent}
 
 -- Two bytes that are read and written are the same bytes.
 two-back : (f : List ℕ) (p : ℕ) → AllBytes f → p + 2 ≤ length f → twoBytes (twoBytesAt f p) ≡ take 2 (drop p f)
@@ -72,40 +72,24 @@ module _ (f : List ℕ) (s : SoundFile f) where
   pub held-count : trackCount (cylinderIn f) ≡ trackCountIn f
   held-count = length-list (lengthIn f) (trackCountIn f)
 
-  -- of the same Ls,
+  -- of the same Ls.
   held-length : (k : ℕ) → k < trackCountIn f → lengthOf (cylinderIn f .lengths) k ≡ lengthIn f k
-  held-length k h = getD-list (lengthIn f) (trackCountIn f) k 0 h
-
-  -- so that they start where the Ls before them end.
-  held-start : (k : ℕ) → k ≤ trackCountIn f → startOf (cylinderIn f .lengths) k ≡ sumTo (lengthIn f) k
-  held-start k h = sum-same _ _ k (λ j l. held-length j (omega arith))
-
-  -- Lists of these lengths, joined, are as long as the Ls together,
-  length-held : (x : ℕ → List ℕ) → ((k : ℕ) → k < trackCountIn f → length (x k) ≡ lengthIn f k) → (k : ℕ) → k ≤ trackCountIn f → length (joinTo x k) ≡ sumTo (lengthIn f) k
-  length-held x e k h = length-join x k ∙ sum-same _ _ k (λ j l. e j (omega arith))
-
-  -- and cut into tracks they are the same lists again.
-  part-held : (x : ℕ → List ℕ) → ((k : ℕ) → k < trackCountIn f → length (x k) ≡ lengthIn f k) → (k : ℕ) → k < trackCountIn f
-      → partOf (cylinderIn f .lengths) (joinTo x (trackCountIn f)) k ≡ x k
-  unfolding partOf
-  part-held x e k h =
-      let j = join-part x (trackCountIn f) k [] h in
-      rw (held-length k h, held-start k (omega arith)) (rw (append-nil (joinTo x (trackCountIn f)), e k h, length-held x e k (omega arith)) at j)
+  held-length k h = listed-length (trackCountIn f) (lengthIn f) k h
 
   -- Each track of the cylinder is the one in the file, and so are its marks.
   pub track-held : (k : ℕ) → k < trackCountIn f → (trackOf (cylinderIn f) k ≡ trackIn f k) × (trackMarksOf (cylinderIn f) k ≡ marksIn f k)
-  track-held k h = (part-held (trackIn f) length-track k h, part-held (marksIn f) (λ j l. length-marks f j) k h)
+  track-held k h =
+      let n : ℕ = trackCountIn f in
+      (part-listed n (lengthIn f) (trackIn f) length-track k h, part-listed n (lengthIn f) (marksIn f) (λ j l. length-marks f j) k h)
 
   -- The cylinder is lent within the rule.
   pub lent-held : cylinderLent (cylinderIn f) ≡ true
-  unfolding cylinderLent lengthsRight marksIn
+  unfolding lengthsRight marksIn
   lent-held =
       let n : ℕ = trackCountIn f in
-      rw held-count
-      (and-make (all-same _ _ n (λ k h. ap lengthRight (held-length k h)) ∙ s .lengths-right)
-      (and-make (eq-eqb _ _ (length-held (trackIn f) length-track n (omega arith) ∙ sym (held-start n (omega arith))))
-      (and-make (eq-eqb _ _ (length-held (marksIn f) (λ j l. length-marks f j) n (omega arith) ∙ sym (held-start n (omega arith))))
-      (marks-at (joinTo (marksIn f) n) (join-keeps (λ (z : ℕ). z < 2) (marksIn f) n (λ k h. mark-at (marksIn f k) (unpacked-legal (lengthIn f k) (packedIn f k))))))))
+      let r = all-holds (λ k. lengthRight (lengthIn f k)) n in
+      listed-lent n (lengthIn f) (trackIn f) (marksIn f) (λ k h. r k (s .lengths-right) h) length-track (λ k h. length-marks f k)
+      (λ k h. unpacked-legal (lengthIn f k) (packedIn f k))
 
   -- Its tracks are as many as the rule allows.
   pub count-held : trackCountRight (trackCount (cylinderIn f)) ≡ true

@@ -4,7 +4,7 @@ use mathlib.Core.Bool.{Bool, _&&_}
 use mathlib.Core.List.{List}
 use lib.ListN.{length, take, drop, getD}
 use lib.Dec.{leb, eqb}
-use Rattle.base.specs.Indexed.{sumTo, allTo}
+use Rattle.base.specs.Indexed.{sumTo, allTo, joinTo, listTo}
 use Rattle.format.specs.Lent.{lengthRight, marksLegal}
 
 -- The bytes of all tracks, a mark for each byte, and L of each track.
@@ -29,12 +29,17 @@ startOf ls k = sumTo (lengthOf ls) k
 unfoldable pub partOf : List ℕ → List ℕ → ℕ → List ℕ
 partOf ls xs k = take (lengthOf ls k) (drop (startOf ls k) xs)
 
--- Track k, and its marks.
+-- The bytes of track k.
 abbrev pub trackOf : Cylinder → ℕ → List ℕ
 trackOf c k = partOf (c .lengths) (c .tracks) k
 
+-- The marks of track k.
 abbrev pub trackMarksOf : Cylinder → ℕ → List ℕ
 trackMarksOf c k = partOf (c .lengths) (c .marks) k
+
+-- The cylinder of n tracks t with the marks m.
+abbrev pub cylinderOf : ℕ → (ℕ → List ℕ) → (ℕ → List ℕ) → Cylinder
+cylinderOf n t m = record { tracks = joinTo t n; marks = joinTo m n; lengths = listTo (λ k. length (t k)) n }
 
 -- The number of tracks is 1 to 10.
 unfoldable pub trackCountRight : ℕ → Bool
