@@ -13,7 +13,7 @@ use borrow.Author.Tests.{ltb-true, ltb-false}
 use Rattle.base.proofs.Tests.{cases, and-both, and-make, and-right}
 use Rattle.base.specs.Indexed.{sumTo, allTo, joinTo, listTo}
 
--- The last of the first n + 1 is the one at n, or one of those before it.
+-- Each of the first n + 1 is the one at n or one before it.
 below : {X : Type 0} (k n : ℕ) → k < suc n → (k < n → X) → (k ≡ n → X) → X
 below k n h f g = cases (ltb k n) (λ e. f (ltb-true k n e)) (λ e. let l = ltb-false k n e in g (omega arith))
 
@@ -22,7 +22,7 @@ pub sum-next : (f : ℕ → ℕ) (n : ℕ) → sumTo f (n + 1) ≡ sumTo f n + f
 unfolding sumTo
 sum-next f n = rw (add-one n)
 
--- More of them are no less.
+-- The sum of more of them is no less.
 sum-grows : (f : ℕ → ℕ) (k n : ℕ) → k ≤ n → sumTo f k ≤ sumTo f n
 unfolding sumTo
 sum-grows f k zero h = let e : k ≡ 0 = omega arith in rw e (omega arith)
@@ -90,7 +90,7 @@ pub join-next : (f : ℕ → List ℕ) (n : ℕ) → joinTo f (n + 1) ≡ joinTo
 unfolding joinTo
 join-next f n = rw (add-one n)
 
--- Joined lists are as long as they are together.
+-- Joined lists are together as long as the sum of their lengths.
 pub length-join : (f : ℕ → List ℕ) (n : ℕ) → length (joinTo f n) ≡ sumTo (λ k. length (f k)) n
 unfolding joinTo sumTo
 length-join f zero = refl

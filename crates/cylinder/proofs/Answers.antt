@@ -14,31 +14,31 @@ use Rattle.cylinder.specs.Cylinder.{Cylinder, trackCount, lengthOf, star
 use Rattle.cylinder.specs.File.{headerLength, tableEnd, cylinderFile}
 use Rattle.cylinder.specs.Writing.{writeCylinder}
 use Rattle.cylinder.specs.Reading.{trackCountIn, zeroField, lengthIn, offsetIn, offsetDue, packedIn, headerRight, offsetsRight, sparesClear, judgeFile, cylinderIn, Room, roomFor, readCylinder}
-use Rattle.cylinder.specs.Answers.{CountIn, CountOut, LengthsIn, LengthOut, MarksIn, MarkOut, WrongCount, WrongLent, ShortBuffer, Writable, WriteMeans}
+use Rattle.cylinder.specs.Answers.{OneToTen, NotOneToTen, LengthsAllowed, LengthForbidden, MarksBinary, MarkOther, WrongTrackCount, WrongLent, ShortBuffer, Writable, WriteMeans}
 use Rattle.cylinder.specs.Answers.{SparesZero, SpareSet, CutHeader, WrongHeader, CutTable, WholeTable, WrongLength, WrongOffset, RightOffsets, WrongEnd, WrongSpare, ShortRoom, Readable, ReadMeans}
 use Rattle.cylinder.proofs.Tells.{Tells, tells-le, tells-eq, tells-and, tells-all, tells-marks, tells-spares, told, row}
 
 -- The test of the number of tracks tells whether it is 1 to 10.
-tells-count : (n : ℕ) → Tells (trackCountRight n) (CountIn n) (CountOut n)
+tells-count : (n : ℕ) → Tells (trackCountRight n) (OneToTen n) (NotOneToTen n)
 unfolding trackCountRight
 tells-count n = tells-and (tells-le 1 n) (tells-le n 10)
 
 -- The test of the Ls tells whether all are in range or one is not.
-tells-lengths : (l : ℕ → ℕ) (n : ℕ) → Tells (lengthsRight l n) (LengthsIn l n) (LengthOut l n)
+tells-lengths : (l : ℕ → ℕ) (n : ℕ) → Tells (lengthsRight l n) (LengthsAllowed l n) (LengthForbidden l n)
 unfolding lengthsRight lengthRight
 tells-lengths l n = tells-all n (λ k. tells-and (tells-le shortestTrack (l k)) (tells-le (l k) longestTrack))
 
 module _ (c : Cylinder) (room : ℕ) where
   -- The test of what is lent tells whether all of it is within the rule or a part of it is not.
   tells-lent : Tells (cylinderLent c)
-      (LengthsIn (lengthOf (c .lengths)) (trackCount c)
+      (LengthsAllowed (lengthOf (c .lengths)) (trackCount c)
       × ((length (c .tracks) ≡ startOf (c .lengths) (trackCount c))
       × ((length (c .marks) ≡ startOf (c .lengths) (trackCount c))
-      × MarksIn (c .marks))))
-      (LengthOut (lengthOf (c .lengths)) (trackCount c)
+      × MarksBinary (c .marks))))
+      (LengthForbidden (lengthOf (c .lengths)) (trackCount c)
       ⊎ ((length (c .tracks) ≡ startOf (c .lengths) (trackCount c) → ⊥)
       ⊎ ((length (c .marks) ≡ startOf (c .lengths) (trackCount c) → ⊥)
-      ⊎ MarkOut (c .marks))))
+      ⊎ MarkOther (c .marks))))
   unfolding cylinderLent
   tells-lent =
       let n : ℕ = startOf (c .lengths) (trackCount c) in
@@ -52,7 +52,7 @@ module _ (c : Cylinder) (room : ℕ) where
   tells-buffer = tells-le (length (cylinderFile c)) room
 
   -- Every answer of writing says what the text gives for it.
-  pub write-means : WriteMeans c room (answerOf (writeCylinder c room) .number)
+  write-means : WriteMeans c room (answerOf (writeCylinder c room) .number)
   unfolding writeCylinder
   write-means =
       let m : Judged (List ℕ) → Type 0 = λ j. WriteMeans c room (answerOf j .number) in
@@ -66,11 +66,11 @@ module _ (c : Cylinder) (room : ℕ) where
   write-says a e = subst (λ (x : Answer). WriteMeans c room (x .number)) e write-means
 
   -- Writing gives 18 exactly where the number of tracks is not 1 to 10.
-  pub write-18 : (answerOf (writeCylinder c room) ≡ headerWrong) ↔ WrongCount c
+  pub write-18 : (answerOf (writeCylinder c room) ≡ headerWrong) ↔ WrongTrackCount c
   unfolding writeCylinder
   write-18 = (write-says headerWrong, λ q. rw (tells-count (trackCount c) .failed q))
 
-  -- Writing gives 1 exactly where it is, and an L, the length of a slice or a mark is out of rule.
+  -- Writing gives 1 exactly where the number of tracks is right, and an L, the length of a slice or a mark is out of rule.
   pub write-1 : (answerOf (writeCylinder c room) ≡ lentWrong) ↔ WrongLent c
   unfolding writeCylinder
   write-1 = (write-says lentWrong, λ q. rw (tells-count (trackCount c) .passed (q .0), tells-lent .failed (q .1)))
@@ -80,7 +80,7 @@ module _ (c : Cylinder) (room : ℕ) where
   unfolding writeCylinder
   write-24 = (write-says bufferTooShort, λ q. rw (tells-count (trackCount c) .passed (q .0 .0), tells-lent .passed (q .0 .1), tells-buffer .failed (q .1)))
 
-  -- Writing gives 0 exactly where none of these is so.
+  -- Writing gives 0 exactly where all that is lent is right and the buffer takes the file.
   pub write-0 : (answerOf (writeCylinder c room) ≡ done) ↔ Writable c room
   unfolding writeCylinder
   write-0 = (write-says done, λ q. rw (tells-count (trackCount c) .passed (q .0 .0), tells-lent .passed (q .0 .1), tells-buffer .passed (q .1)))
@@ -99,7 +99,7 @@ module _ (f : List ℕ) (r : Room) where
   tells-head = tells-le headerLength (length f)
 
   -- The test of the header tells whether it is right.
-  tells-header : Tells (headerRight f) (CountIn (trackCountIn f) × (zeroField f ≡ 0)) (CountOut (trackCountIn f) ⊎ (zeroField f ≡ 0 → ⊥))
+  tells-header : Tells (headerRight f) (OneToTen (trackCountIn f) × (zeroField f ≡ 0)) (NotOneToTen (trackCountIn f) ⊎ (zeroField f ≡ 0 → ⊥))
   unfolding headerRight
   tells-header = tells-and (tells-count (trackCountIn f)) (tells-eq (zeroField f) 0)
 
@@ -123,7 +123,7 @@ module _ (f : List ℕ) (r : Room) where
   unfolding sparesClear
   tells-clear = tells-all (trackCountIn f) (λ k. tells-spares (lengthIn f k) (packedIn f k))
 
-  -- The test of what is lent to be filled tells whether all three are long enough or one is not.
+  -- The test of what is lent for writing tells whether all three are long enough or one is not.
   tells-room : Tells (roomFor f r)
       ((sumTo (lengthIn f) (trackCountIn f) ≤ r .tracks) × ((sumTo (lengthIn f) (trackCountIn f) ≤ r .marks) × (trackCountIn f ≤ r .lengths)))
       ((r .tracks < sumTo (lengthIn f) (trackCountIn f)) ⊎ ((r .marks < sumTo (lengthIn f) (trackCountIn f)) ⊎ (r .lengths < trackCountIn f)))
@@ -133,7 +133,7 @@ module _ (f : List ℕ) (r : Room) where
       tells-and (tells-le n (r .tracks)) (tells-and (tells-le n (r .marks)) (tells-le (trackCountIn f) (r .lengths)))
 
   -- Every answer of reading says what the text gives for it.
-  pub read-means : ReadMeans f r (answerOf (readCylinder f r) .number)
+  read-means : ReadMeans f r (answerOf (readCylinder f r) .number)
   unfolding readCylinder judgeFile
   read-means =
       let k : Unit {0} → Judged Cylinder = λ _. require (roomFor f r) bufferTooShort (good (cylinderIn f)) in
@@ -172,12 +172,12 @@ module _ (f : List ℕ) (r : Room) where
   unfolding readCylinder
   read-1 = (read-says lentWrong, λ q. rw (table-judged (q .0), tells-lengths (lengthIn f) (trackCountIn f) .failed (q .1)))
 
-  -- Reading gives 19 exactly where the Ls are right too, and an offset is not the one that is due.
+  -- Reading gives 19 exactly where the Ls are right, and an offset is not the one that is due.
   pub read-19 : (answerOf (readCylinder f r) ≡ offsetWrong) ↔ WrongOffset f
   unfolding readCylinder
   read-19 = (read-says offsetWrong, λ q. rw (table-judged (q .0 .0), tells-lengths (lengthIn f) (trackCountIn f) .passed (q .0 .1), tells-offsets .failed (q .1)))
 
-  -- A file whose offsets are right too is judged by its length and its spare bits alone.
+  -- A file whose offsets are right is judged by its length and its spare bits alone.
   offsets-judged : RightOffsets f → judgeFile f ≡ require (eqb (length f) (offsetDue f (trackCountIn f))) fileLengthWrong (require (sparesClear f) spareBitsSet (good tt))
   offsets-judged q = rw (table-judged (q .0 .0), tells-lengths (lengthIn f) (trackCountIn f) .passed (q .0 .1), tells-offsets .passed (q .1))
 
@@ -198,17 +198,17 @@ module _ (f : List ℕ) (r : Room) where
         wrong-end),
   )
 
-  -- Reading gives 21 exactly where the length of the file is right too, and a spare bit is set.
+  -- Reading gives 21 exactly where the length of the file is right, and a spare bit is set.
   pub read-21 : (answerOf (readCylinder f r) ≡ spareBitsSet) ↔ WrongSpare f
   unfolding readCylinder
   read-21 = (read-says spareBitsSet, λ q. rw (offsets-judged (q .0 .0), tells-end .passed (q .0 .1), tells-clear .failed (q .1)))
 
-  -- Reading gives 24 exactly where the file is right, and one of the three that are lent to be filled is too short.
+  -- Reading gives 24 exactly where the file is right, and one of the three that are lent for writing is too short.
   pub read-24 : (answerOf (readCylinder f r) ≡ bufferTooShort) ↔ ShortRoom f r
   unfolding readCylinder
   read-24 = (read-says bufferTooShort, λ q. rw (offsets-judged (q .0 .0 .0), tells-end .passed (q .0 .0 .1), tells-clear .passed (q .0 .1), tells-room .failed (q .1)))
 
-  -- Reading gives 0 exactly where none of these is so.
+  -- Reading gives 0 exactly where the file is right, and each of the three that are lent for writing is long enough.
   pub read-0 : (answerOf (readCylinder f r) ≡ done) ↔ Readable f r
   unfolding readCylinder
   read-0 = (read-says done, λ q. rw (offsets-judged (q .0 .0 .0), tells-end .passed (q .0 .0 .1), tells-clear .passed (q .0 .1), tells-room .passed (q .1)))

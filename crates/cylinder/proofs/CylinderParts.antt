@@ -6,13 +6,13 @@ use mathlib.Core.Bool.{true}
 use mathlib.Core.List.{List, [], append-nil}
 use lib.ListN.{length}
 use lib.Seq.{take-all}
-use lib.Dec.{eqb}
-use borrow.Author.Tests.{eqb-true, eq-eqb}
+use borrow.Author.Tests.{eq-eqb}
 use Rattle.base.specs.Indexed.{sumTo, joinTo, listTo}
 use Rattle.base.proofs.Indexed.{sum-same, all-holds, each-holds, length-join, join-part, join-cut, length-list, getD-list}
 use Rattle.base.proofs.Tests.{and-both, and-make}
 use Rattle.format.specs.Lent.{lengthRight, marksLegal, lentForWriting, lentForReading}
 use Rattle.format.proofs.Base.Marks.{mark-at, marks-at}
+use Rattle.format.proofs.Track.Pairs.{lent-marks, lent-length}
 use Rattle.cylinder.specs.Cylinder.{Cylinder, trackCount, lengthOf, startOf, partOf, trackOf, trackMarksOf, cylinderOf, lengthsRight, cylinderLent}
 use Rattle.cylinder.proofs.Sizes.{cylinder-lent, length-part}
 use Rattle.cylinder.proofs.Parts.{join-keeps, part-keeps}
@@ -80,13 +80,10 @@ module _ (n : ℕ) (l : ℕ → ℕ) where
       (and-make (eq-eqb _ _ (slice-listed m marked))
       (marks-at (joinTo m n) (join-keeps (λ (z : ℕ). z < 2) m n (λ k h. mark-at (m k) (legal k h)))))))
 
--- What a pair that is lent for reading within the rule keeps: L in range, as many marks, each of them legal.
-pair-lent : (t m : List ℕ) → lentForReading t m ≡ true → (lengthRight (length t) ≡ true) × (length m ≡ length t) × (marksLegal m ≡ true)
-unfolding lentForReading lentForWriting
-pair-lent t m e =
-    let a = and-both (lentForWriting (length t) (length m)) (marksLegal m) e in
-    let b = and-both (lengthRight (length t)) (eqb (length m) (length t)) (a .0) in
-    (b .0, eqb-true _ _ (b .1), a .1)
+-- The marks of a pair that is lent for reading within the rule are legal.
+lent-legal : (t m : List ℕ) → lentForReading t m ≡ true → marksLegal m ≡ true
+unfolding lentForReading
+lent-legal t m e = and-both (lentForWriting (length t) (length m)) (marksLegal m) e .1
 
 -- Any n tracks that are lent with their marks for reading within the rule make a cylinder of n tracks that is, and its tracks and marks are these.
 pub tracks-cylinder : (n : ℕ) (t m : ℕ → List ℕ) → ((k : ℕ) → k < n → lentForReading (t k) (m k) ≡ true)
@@ -96,8 +93,8 @@ pub tracks-cylinder : (n : ℕ) (t m : ℕ → List ℕ) → ((k : ℕ) → k < 
 tracks-cylinder n t m e =
     let l : ℕ → ℕ = λ k. length (t k) in
     let long : (k : ℕ) → k < n → length (t k) ≡ l k = λ k h. refl in
-    let marked : (k : ℕ) → k < n → length (m k) ≡ l k = λ k h. pair-lent (t k) (m k) (e k h) .1 in (
+    let marked : (k : ℕ) → k < n → length (m k) ≡ l k = λ k h. lent-marks (t k) (m k) (e k h) in (
       length-list l n,
-      listed-lent n l t m (λ k h. pair-lent (t k) (m k) (e k h) .0) long marked (λ k h. pair-lent (t k) (m k) (e k h) .2),
+      listed-lent n l t m (λ k h. lent-length (t k) (m k) (e k h) .1) long marked (λ k h. lent-legal (t k) (m k) (e k h)),
       λ k h. (part-listed n l t long k h, part-listed n l m marked k h),
     )

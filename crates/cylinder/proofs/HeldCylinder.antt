@@ -87,8 +87,10 @@ module _ (f : List ℕ) (s : SoundFile f) where
   unfolding lengthsRight marksIn
   lent-held =
       let n : ℕ = trackCountIn f in
-      let r = all-holds (λ k. lengthRight (lengthIn f k)) n in
-      listed-lent n (lengthIn f) (trackIn f) (marksIn f) (λ k h. r k (s .lengths-right) h) length-track (λ k h. length-marks f k)
+      listed-lent n (lengthIn f) (trackIn f) (marksIn f)
+      (λ k h. all-holds (λ j. lengthRight (lengthIn f j)) n k (s .lengths-right) h)
+      length-track
+      (λ k h. length-marks f k)
       (λ k h. unpacked-legal (lengthIn f k) (packedIn f k))
 
   -- Its tracks are as many as the rule allows.

@@ -1,4 +1,4 @@
--- What packing and unpacking undo of each other, and the spare bits.
+-- Packing undoes unpacking of marks, and unpacking packing; the spare bits.
 use mathlib.Core.Path.{_≡_, refl, sym, ap, _∙_, subst}
 use Prim.Native.Nat.{ℕ, zero, suc, _+_, _-_, _*_, _/_, _%_, _≤_, _<_}
 use native.Mathlib.Nat.{add-zero}
@@ -140,7 +140,7 @@ halved : (x q r s t u v a b c d e f g h : ℕ) → x ≡ q * 2 + h → q ≡ r *
     → a * 128 + b * 64 + c * 32 + d * 16 + e * 8 + f * 4 + g * 2 + h ≡ x
 halved x q r s t u v a b c d e f g h e0 e1 e2 e3 e4 e5 e6 = omega arith
 
--- A bit is what is left of it by 2.
+-- A bit is its own remainder by 2.
 bit-left : (x : ℕ) → x % 2 % 2 ≡ x % 2
 bit-left x = omega arith
 

@@ -14,7 +14,7 @@ use Rattle.base.proofs.Indexed.{sum-within, sum-same, length-join, sum-const}
 use Rattle.format.specs.Lent.{marksLegal}
 use Rattle.cylinder.specs.Cylinder.{Cylinder, trackCount, lengthOf, startOf, partOf, trackOf, trackMarksOf, trackCountRight, lengthsRight, cylinderLent}
 use Rattle.cylinder.specs.Packed.{packed}
-use Rattle.cylinder.specs.File.{twoBytes, fourBytes, entryLength, tableEnd, storedSize, offsetOf, header, entry, table, storedTrack, storedTracks, cylinderFile}
+use Rattle.cylinder.specs.File.{twoBytes, fourBytes, headerLength, entryLength, tableEnd, storedSize, offsetOf, header, entry, table, storedTrack, storedTracks, cylinderFile}
 use Rattle.cylinder.proofs.Packed.{length-packed}
 
 -- A right number of tracks is 1 to 10.
@@ -23,21 +23,21 @@ unfolding trackCountRight
 track-count n e = let b = and-both (leb 1 n) (leb n 10) e in (leb-true _ _ (b .0), leb-true _ _ (b .1))
 
 -- The header has four bytes.
-pub length-header : (n : ℕ) → length (header n) ≡ 4
+pub length-header : (n : ℕ) → length (header n) ≡ headerLength
 unfolding header twoBytes
 length-header n = refl
 
--- An entry has six.
+-- An entry of the table has six bytes.
 pub length-entry : (n : ℕ) (l : ℕ → ℕ) (k : ℕ) → length (entry n l k) ≡ entryLength
 unfolding entry twoBytes fourBytes
 length-entry n l k = refl
 
--- The first k entries of a table have six bytes each,
+-- The first k entries of a table have k times six bytes,
 pub length-entries : (n : ℕ) (l : ℕ → ℕ) (k : ℕ) → length (joinTo (entry n l) k) ≡ k * entryLength
 length-entries n l k = length-join (entry n l) k ∙ sum-same (λ j. length (entry n l j)) (λ j. entryLength) k (λ j h. length-entry n l j) ∙ sum-const entryLength k
 
--- and so has the table.
-length-table : (ls : List ℕ) (n : ℕ) → length (table ls n) ≡ n * 6
+-- and the whole table n times six.
+length-table : (ls : List ℕ) (n : ℕ) → length (table ls n) ≡ n * entryLength
 unfolding table
 length-table ls n = length-entries n (lengthOf ls) n
 
@@ -59,7 +59,7 @@ pub record Lent (c : Cylinder) : Type 0 where
   pub marks-long : length (c .marks) ≡ startOf (c .lengths) (trackCount c)
   pub marks-legal : marksLegal (c .marks) ≡ true
 
--- The rule says no more and no less of it than these four.
+-- A cylinder that is lent within the rule keeps these four.
 pub cylinder-lent : (c : Cylinder) → cylinderLent c ≡ true → Lent c
 unfolding cylinderLent
 cylinder-lent c e =

@@ -16,7 +16,7 @@ use Rattle.format.specs.Judged.{Judged, refused, require, answerOf}
 use Rattle.format.specs.Lent.{marksLegal}
 use Rattle.format.proofs.Base.Marks.{mark-at}
 use Rattle.cylinder.specs.Packed.{packedSize, markAt, spareClear}
-use Rattle.cylinder.specs.Answers.{MarksIn, MarkOut, SparesZero, SpareSet}
+use Rattle.cylinder.specs.Answers.{MarksBinary, MarkOther, SparesZero, SpareSet}
 use Rattle.cylinder.proofs.Packed.{spare-at}
 
 -- The test b holds exactly where P does, and fails exactly where Q does.
@@ -72,7 +72,7 @@ tells-all {p} n t =
     (λ x y. false-true (sym (t (y .0) .failed (y .2)) ∙ t (y .0) .passed (x (y .0) (y .1))))
 
 -- Where marks are not legal one of them is not.
-mark-out : (m : List ℕ) → marksLegal m ≡ false → MarkOut m
+mark-out : (m : List ℕ) → marksLegal m ≡ false → MarkOther m
 unfolding marksLegal
 mark-out [] e = false-true (sym e)
 mark-out (k ∷ m) e =
@@ -81,7 +81,7 @@ mark-out (k ∷ m) e =
     (λ h. (0, omega arith, ltb-false k 2 h))
 
 -- The test of marks tells whether all are 0 or 1 or one is not.
-pub tells-marks : (m : List ℕ) → Tells (marksLegal m) (MarksIn m) (MarkOut m)
+pub tells-marks : (m : List ℕ) → Tells (marksLegal m) (MarksBinary m) (MarkOther m)
 tells-marks m = tells (λ e i h. omega (arith, mark-at m e i h)) (mark-out m) (λ x y. omega (arith, x (y .0) (y .1), y .2))
 
 -- The test of the spare bits of l marks tells whether all are zero or one is not.

@@ -1,4 +1,4 @@
--- A lent cylinder: the tracks of its heads without holes in one list, their marks in another, and their Ls.
+-- Several tracks lent together: one list with the bytes of all, one with their marks, one with their Ls.
 use Prim.Native.Nat.{ℕ}
 use mathlib.Core.Bool.{Bool, _&&_}
 use mathlib.Core.List.{List}

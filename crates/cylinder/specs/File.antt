@@ -49,7 +49,7 @@ table ls n = joinTo (entry n (lengthOf ls)) n
 unfoldable pub storedTrack : Cylinder → ℕ → List ℕ
 storedTrack c k = trackOf c k ++ packed (trackMarksOf c k)
 
--- All tracks in order without holes.
+-- Every track with its marks, each right behind the one before it.
 unfoldable pub storedTracks : Cylinder → List ℕ
 storedTracks c = joinTo (storedTrack c) (trackCount c)
 

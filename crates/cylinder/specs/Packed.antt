@@ -1,4 +1,4 @@
--- Marks eight to a byte: the first mark in the top bit, the spare bits of the last byte zero.
+-- Packed marks: a byte for every eight of them, from its top bit down, and clear bits where the last byte has no mark.
 use Prim.Native.Nat.{ℕ, zero, suc, _+_, _-_, _*_, _/_, _%_}
 use mathlib.Core.Bool.{Bool}
 use mathlib.Core.List.{List}

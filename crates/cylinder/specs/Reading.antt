@@ -19,17 +19,19 @@ twoBytesAt f p = getD f p 0 * 256 + getD f (p + 1) 0
 unfoldable pub fourBytesAt : List ℕ → ℕ → ℕ
 fourBytesAt f p = twoBytesAt f p * 65536 + twoBytesAt f (p + 2)
 
--- The number of tracks, and the two bytes behind it.
+-- The number of tracks that the file names.
 unfoldable pub trackCountIn : List ℕ → ℕ
 trackCountIn f = twoBytesAt f 0
 
+-- The number in the two bytes behind the number of tracks, which has to be zero.
 unfoldable pub zeroField : List ℕ → ℕ
 zeroField f = twoBytesAt f 2
 
--- L of track k, and its offset, as the table has them.
+-- L of track k, as the table has it.
 unfoldable pub lengthIn : List ℕ → ℕ → ℕ
 lengthIn f k = twoBytesAt f (tableEnd k)
 
+-- The offset of track k, as the table has it.
 unfoldable pub offsetIn : List ℕ → ℕ → ℕ
 offsetIn f k = fourBytesAt f (tableEnd k + 2)
 
@@ -37,10 +39,11 @@ offsetIn f k = fourBytesAt f (tableEnd k + 2)
 unfoldable pub offsetDue : List ℕ → ℕ → ℕ
 offsetDue f k = offsetOf (trackCountIn f) (lengthIn f) k
 
--- The bytes of track k, and those of its marks.
+-- The bytes of track k.
 unfoldable pub trackIn : List ℕ → ℕ → List ℕ
 trackIn f k = take (lengthIn f k) (drop (offsetDue f k) f)
 
+-- The packed marks of track k.
 unfoldable pub packedIn : List ℕ → ℕ → List ℕ
 packedIn f k = take (packedSize (lengthIn f k)) (drop (offsetDue f k + lengthIn f k) f)
 
@@ -102,6 +105,6 @@ roomFor f r =
 unfoldable pub readCylinder : List ℕ → Room → Judged Cylinder
 readCylinder f r = then (judgeFile f) (λ _. require (roomFor f r) bufferTooShort (good (cylinderIn f)))
 
--- The cylinder that was read: none, without tracks, where it is refused.
+-- The cylinder that was read: the empty one where it is refused.
 abbrev pub cylinderRead : Judged Cylinder → Cylinder
 cylinderRead j = valueOr (record { tracks = []; marks = []; lengths = [] }) j

@@ -31,7 +31,7 @@ coded a = record { number = a .number; fault = a .fault; place = a .place }
 abbrev pub done : Answer
 done = answerAt 0 0
 
--- 1: L, another lent length, a mark or the length of a list is out of rule.
+-- 1: L, another lent length, a mark or the length of a list, or an L in the table of a cylinder's file is out of rule.
 abbrev pub lentWrong : Answer
 lentWrong = answerAt 1 0
 

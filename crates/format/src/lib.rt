@@ -59,7 +59,7 @@ pub fn done() -> Answer
     answer_at(0, 0)
 }
 
-// 1: a lent length, a mark or the length of a list is out of rule.
+// 1: a lent length, a mark or the length of a list, or an L in the table of a cylinder's file is out of rule.
 pub fn lent_wrong() -> Answer
     ensures { λ r. ⌜ asAnswer r ≡ lentWrong ⌝ }
 {

@@ -25,7 +25,7 @@ use Rattle.listing.proofs.Listed.{listing}
 use Rattle.cylinder.specs.Cylinder.{Cylinder, trackCount}
 use Rattle.cylinder.specs.Writing.{writeCylinder, fileBytes}
 use Rattle.cylinder.specs.Reading.{Room, readCylinder, cylinderRead}
-use Rattle.cylinder.proofs.Places.{AtStart, read-start, write-start}
+use Rattle.cylinder.proofs.Places.{PlaceZero, read-places, write-places}
 use Rattle.cylinder.proofs.Bounds.{read-most, write-most}
 use Rattle.station.proofs.Places.{Row, accept-within, list-within, blank-within, add-within, correct-within}
 use Rattle.station.proofs.Fields.{Inside, Fits, find-inside, pair-inside, step-fits}
@@ -84,11 +84,12 @@ list-read n t m = count-read (answerOf (list n t m)) (length (recordsOf (list n 
 abbrev pub givenIn : ℕ → ℕ
 givenIn r = r / 0x100000000
 
--- A small number below them.
+-- Of a number b of at most 24 with n above its 32 bits, bits 0 to 31 tell b alone, and the bits above them n.
 number-below : (b n : ℕ) → b ≤ 24 → let r = b + n * 0x100000000 in (numberIn r ≡ b) × (faultIn r ≡ 0) × (placeIn r ≡ 0) × (givenIn r ≡ n)
 number-below b n h = (omega arith, omega arith, omega arith, omega arith)
 
-given-read : (a : Answer) (n : ℕ) → AtStart a → n ≤ 0xFFFFFFFF → TellsAnswer (packedNumber a n) a × (givenIn (packedNumber a n) ≡ n)
+-- The bits of an answer at place 0 with a number n of 32 bits tell both.
+given-read : (a : Answer) (n : ℕ) → PlaceZero a → n ≤ 0xFFFFFFFF → TellsAnswer (packedNumber a n) a × (givenIn (packedNumber a n) ≡ n)
 unfolding packedNumber packedAnswer
 given-read a n s k =
     let m : n % 0x100000000 ≡ n = omega arith in
@@ -98,11 +99,11 @@ given-read a n s k =
 
 -- The answer of reading a cylinder's file, and the number of its tracks.
 pub cylinder-read-read : (f : List ℕ) (r : Room) → let j = readCylinder f r in TellsAnswer (packedReading j) (answerOf j) × (givenIn (packedReading j) ≡ trackCount (cylinderRead j))
-cylinder-read-read f r = given-read _ _ (read-start f r) (omega (arith, read-most f r))
+cylinder-read-read f r = given-read _ _ (read-places f r) (omega (arith, read-most f r))
 
 -- The answer of writing one, and its length.
 pub cylinder-write-read : (c : Cylinder) (room : ℕ) → let j = writeCylinder c room in TellsAnswer (packedWriting j) (answerOf j) × (givenIn (packedWriting j) ≡ length (fileBytes j))
-cylinder-write-read c room = given-read _ _ (write-start c room) (omega (arith, write-most c room))
+cylinder-write-read c room = given-read _ _ (write-places c room) (omega (arith, write-most c room))
 
 -- The bits of Blank's result tell its answer.
 pub blank-read : (l k : ℕ) (own : Address) (flag : ℕ) (partner : Address) (s : ℕ) (key body : List ℕ) → let a = answerOf (blank l k own flag partner s key body) in TellsAnswer (packedAnswer a) a
