@@ -5,6 +5,7 @@ use mathlib.Core.List.{List, []}
 use lib.ListN.{length, take, drop, getD}
 use lib.Dec.{leb, eqb}
 use Rattle.base.specs.Indexed.{sumTo, allTo, joinTo, listTo}
+use Rattle.format.specs.Address.{word}
 use Rattle.format.specs.Answer.{lentWrong, headerWrong, offsetWrong, fileLengthWrong, spareBitsSet, bufferTooShort}
 use Rattle.format.specs.Judged.{Judged, good, then, require, valueOr}
 use Rattle.cylinder.specs.Cylinder.{Cylinder, trackCountRight, lengthsRight}
@@ -13,7 +14,7 @@ use Rattle.cylinder.specs.File.{headerLength, tableEnd, offsetOf}
 
 -- The number in the two bytes from place p on, most significant byte first.
 unfoldable pub twoBytesAt : List ℕ → ℕ → ℕ
-twoBytesAt f p = getD f p 0 * 256 + getD f (p + 1) 0
+twoBytesAt f p = word (getD f p 0) (getD f (p + 1) 0)
 
 -- The number in the four bytes from place p on.
 unfoldable pub fourBytesAt : List ℕ → ℕ → ℕ
