@@ -7,20 +7,24 @@ use mathlib.Core.List.{List}
 use lib.ListN.{length}
 use lib.Dec.{leb}
 use borrow.Author.Tests.{le-leb}
-use Rattle.base.specs.Indexed.{sumTo}
+use Rattle.base.specs.Indexed.{sumTo, joinTo}
 use Rattle.base.proofs.Indexed.{sum-same}
 use Rattle.base.proofs.Tests.{and-make}
 use Rattle.crc.specs.Halves.{AllBytes}
+use Rattle.crc.proofs.Bytes.{all-bytes, byte-at}
 use Rattle.format.specs.Answer.{lentWrong, headerWrong, bufferTooShort}
 use Rattle.format.specs.Judged.{good, require}
+use Rattle.format.specs.Lent.{lentForReading}
 use Rattle.format.proofs.Base.Judged.{good-inj, then-good, require-good}
-use Rattle.cylinder.specs.Cylinder.{Cylinder, trackCount, startOf, trackOf, trackMarksOf, trackCountRight, cylinderLent}
+use Rattle.cylinder.specs.Cylinder.{Cylinder, trackCount, startOf, trackOf, trackMarksOf, cylinderOf, trackCountRight, cylinderLent}
 use Rattle.cylinder.specs.File.{cylinderFile}
 use Rattle.cylinder.specs.Writing.{writeCylinder}
 use Rattle.cylinder.specs.Reading.{lengthIn, trackIn, marksIn, judgeFile, cylinderIn, Room, Takes, roomFor, readCylinder}
 use Rattle.cylinder.proofs.Sound.{SoundFile, file-sound, sound-file}
 use Rattle.cylinder.proofs.Sizes.{Lent, cylinder-lent}
 use Rattle.cylinder.proofs.WrittenFile.{count-read, length-read, cylinder-read, file-read}
+use Rattle.cylinder.proofs.Parts.{join-keeps}
+use Rattle.cylinder.proofs.CylinderParts.{tracks-cylinder}
 use Rattle.cylinder.proofs.FileBytes.{file-bytes}
 use Rattle.cylinder.proofs.HeldCylinder.{held-count, track-held, lent-held, count-held, file-back}
 
@@ -91,3 +95,10 @@ read-write f r c room b e h =
 pub one-file : (c : Cylinder) (r : Room) → trackCountRight (trackCount c) ≡ true → cylinderLent c ≡ true → AllBytes (c .tracks) → Takes r c
     → AllBytes (cylinderFile c) × (readCylinder (cylinderFile c) r ≡ good c) × ((f : List ℕ) (q : Room) → AllBytes f → readCylinder f q ≡ good c → f ≡ cylinderFile c)
 one-file c r n e b h = (file-bytes c n e b, file-reads c r n e h, λ f q a g. read-file f q c a g)
+
+-- So for any one to ten tracks of bytes, each lent with its marks within the rule, there is exactly one file of bytes that is read as them.
+pub tracks-one-file : (n : ℕ) (t m : ℕ → List ℕ) (r : Room) → trackCountRight n ≡ true → ((k : ℕ) → k < n → lentForReading (t k) (m k) ≡ true) → ((k : ℕ) → k < n → AllBytes (t k)) → Takes r (cylinderOf n t m)
+    → let c = cylinderOf n t m in AllBytes (cylinderFile c) × (readCylinder (cylinderFile c) r ≡ good c) × ((f : List ℕ) (q : Room) → AllBytes f → readCylinder f q ≡ good c → f ≡ cylinderFile c)
+tracks-one-file n t m r e lent bytes h =
+    let c = tracks-cylinder n t m lent in
+    one-file (cylinderOf n t m) r (rw (c .0) e) (c .1) (all-bytes (joinTo t n) (join-keeps (λ x. x < 256) t n (λ k l. byte-at (t k) (bytes k l)))) h
