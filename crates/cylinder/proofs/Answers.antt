@@ -8,29 +8,17 @@ use lib.Dec.{leb, eqb}
 use Rattle.base.specs.Indexed.{sumTo}
 use Rattle.format.specs.Answer.{Answer, done, lentWrong, headerWrong, offsetWrong, fileLengthWrong, spareBitsSet, bufferTooShort}
 use Rattle.format.specs.Judged.{Judged, good, require, then, answerOf}
-use Rattle.format.specs.Lent.{lengthRight}
-use Rattle.format.specs.Layout.{shortestTrack, longestTrack}
-use Rattle.cylinder.specs.Cylinder.{Cylinder, trackCount, lengthOf, startOf, trackCountRight, lengthsRight, cylinderLent}
+use Rattle.cylinder.specs.Cylinder.{Cylinder, trackCount, lengthOf, startOf, lengthsRight, cylinderLent}
 use Rattle.cylinder.specs.File.{headerLength, tableEnd, cylinderFile}
 use Rattle.cylinder.specs.Writing.{writeCylinder}
 use Rattle.cylinder.specs.Reading.{trackCountIn, zeroField, lengthIn, offsetIn, offsetDue, packedIn, headerRight, offsetsRight, sparesClear, judgeFile, cylinderIn, Room, roomFor, readCylinder}
 use Rattle.cylinder.specs.Answers.{OneToTen, NotOneToTen, LengthsAllowed, LengthForbidden, MarksBinary, MarkOther, WrongTrackCount, WrongLent, ShortBuffer, Writable, WriteMeans}
 use Rattle.cylinder.specs.Answers.{SparesZero, SpareSet, CutHeader, WrongHeader, CutTable, WholeTable, WrongLength, WrongOffset, RightOffsets, WrongEnd, WrongSpare, ShortRoom, Readable, ReadMeans}
-use Rattle.cylinder.proofs.Tells.{Tells, tells-le, tells-eq, tells-and, tells-all, tells-marks, tells-spares, told, row}
-
--- The test of the number of tracks tells whether it is 1 to 10.
-tells-count : (n : ℕ) → Tells (trackCountRight n) (OneToTen n) (NotOneToTen n)
-unfolding trackCountRight
-tells-count n = tells-and (tells-le 1 n) (tells-le n 10)
-
--- The test of the Ls tells whether all are in range or one is not.
-tells-lengths : (l : ℕ → ℕ) (n : ℕ) → Tells (lengthsRight l n) (LengthsAllowed l n) (LengthForbidden l n)
-unfolding lengthsRight lengthRight
-tells-lengths l n = tells-all n (λ k. tells-and (tells-le shortestTrack (l k)) (tells-le (l k) longestTrack))
+use Rattle.cylinder.proofs.Decides.{Decides, decides-le, decides-eq, decides-and, decides-all, decides-count, decides-lengths, decides-marks, decides-spares, decided, row}
 
 module _ (c : Cylinder) (room : ℕ) where
-  -- The test of what is lent tells whether all of it is within the rule or a part of it is not.
-  tells-lent : Tells (cylinderLent c)
+  -- The test of what is lent decides whether all of it is within the rule or a part of it is not.
+  decides-lent : Decides (cylinderLent c)
       (LengthsAllowed (lengthOf (c .lengths)) (trackCount c)
       × ((length (c .tracks) ≡ startOf (c .lengths) (trackCount c))
       × ((length (c .marks) ≡ startOf (c .lengths) (trackCount c))
@@ -40,25 +28,25 @@ module _ (c : Cylinder) (room : ℕ) where
       ⊎ ((length (c .marks) ≡ startOf (c .lengths) (trackCount c) → ⊥)
       ⊎ MarkOther (c .marks))))
   unfolding cylinderLent
-  tells-lent =
+  decides-lent =
       let n : ℕ = startOf (c .lengths) (trackCount c) in
-      tells-and (tells-lengths (lengthOf (c .lengths)) (trackCount c))
-      (tells-and (tells-eq (length (c .tracks)) n)
-      (tells-and (tells-eq (length (c .marks)) n)
-      (tells-marks (c .marks))))
+      decides-and (decides-lengths (lengthOf (c .lengths)) (trackCount c))
+      (decides-and (decides-eq (length (c .tracks)) n)
+      (decides-and (decides-eq (length (c .marks)) n)
+      (decides-marks (c .marks))))
 
-  -- The test of the buffer tells whether it takes the file.
-  tells-buffer : Tells (leb (length (cylinderFile c)) room) (length (cylinderFile c) ≤ room) (room < length (cylinderFile c))
-  tells-buffer = tells-le (length (cylinderFile c)) room
+  -- The test of the buffer decides whether it takes the file.
+  decides-buffer : Decides (leb (length (cylinderFile c)) room) (length (cylinderFile c) ≤ room) (room < length (cylinderFile c))
+  decides-buffer = decides-le (length (cylinderFile c)) room
 
   -- Every answer of writing says what the text gives for it.
   write-means : WriteMeans c room (answerOf (writeCylinder c room) .number)
   unfolding writeCylinder
   write-means =
       let m : Judged (List ℕ) → Type 0 = λ j. WriteMeans c room (answerOf j .number) in
-      told m (tells-count (trackCount c)) headerWrong _ (λ q. q)
-      (λ n. told m tells-lent lentWrong _ (λ q. (n, q))
-      (λ l. told m tells-buffer bufferTooShort (good (cylinderFile c)) (λ q. ((n, l), q))
+      decided m (decides-count (trackCount c)) headerWrong _ (λ q. q)
+      (λ n. decided m decides-lent lentWrong _ (λ q. (n, q))
+      (λ l. decided m decides-buffer bufferTooShort (good (cylinderFile c)) (λ q. ((n, l), q))
       (λ b. ((n, l), b))))
 
   -- An answer of writing says what the text gives for its number.
@@ -68,22 +56,22 @@ module _ (c : Cylinder) (room : ℕ) where
   -- Writing gives 18 exactly where the number of tracks is not 1 to 10.
   pub write-18 : (answerOf (writeCylinder c room) ≡ headerWrong) ↔ WrongTrackCount c
   unfolding writeCylinder
-  write-18 = (write-says headerWrong, λ q. rw (tells-count (trackCount c) .failed q))
+  write-18 = (write-says headerWrong, λ q. rw (decides-count (trackCount c) .failed q))
 
   -- Writing gives 1 exactly where the number of tracks is right, and an L, the length of a slice or a mark is out of rule.
   pub write-1 : (answerOf (writeCylinder c room) ≡ lentWrong) ↔ WrongLent c
   unfolding writeCylinder
-  write-1 = (write-says lentWrong, λ q. rw (tells-count (trackCount c) .passed (q .0), tells-lent .failed (q .1)))
+  write-1 = (write-says lentWrong, λ q. rw (decides-count (trackCount c) .passed (q .0), decides-lent .failed (q .1)))
 
   -- Writing gives 24 exactly where all that is lent is right and the buffer is shorter than the file.
   pub write-24 : (answerOf (writeCylinder c room) ≡ bufferTooShort) ↔ ShortBuffer c room
   unfolding writeCylinder
-  write-24 = (write-says bufferTooShort, λ q. rw (tells-count (trackCount c) .passed (q .0 .0), tells-lent .passed (q .0 .1), tells-buffer .failed (q .1)))
+  write-24 = (write-says bufferTooShort, λ q. rw (decides-count (trackCount c) .passed (q .0 .0), decides-lent .passed (q .0 .1), decides-buffer .failed (q .1)))
 
   -- Writing gives 0 exactly where all that is lent is right and the buffer takes the file.
   pub write-0 : (answerOf (writeCylinder c room) ≡ done) ↔ Writable c room
   unfolding writeCylinder
-  write-0 = (write-says done, λ q. rw (tells-count (trackCount c) .passed (q .0 .0), tells-lent .passed (q .0 .1), tells-buffer .passed (q .1)))
+  write-0 = (write-says done, λ q. rw (decides-count (trackCount c) .passed (q .0 .0), decides-lent .passed (q .0 .1), decides-buffer .passed (q .1)))
 
   -- Writing gives any number exactly where the text gives it, and never a number that the text does not give.
   pub write-exactly : (n : ℕ) → (answerOf (writeCylinder c room) .number ≡ n) ↔ WriteMeans c room n
@@ -94,43 +82,43 @@ module _ (c : Cylinder) (room : ℕ) where
       )
 
 module _ (f : List ℕ) (r : Room) where
-  -- The first test of the length tells whether the header is whole.
-  tells-head : Tells (leb headerLength (length f)) (headerLength ≤ length f) (length f < headerLength)
-  tells-head = tells-le headerLength (length f)
+  -- The first test of the length decides whether the header is whole.
+  decides-head : Decides (leb headerLength (length f)) (headerLength ≤ length f) (length f < headerLength)
+  decides-head = decides-le headerLength (length f)
 
-  -- The test of the header tells whether it is right.
-  tells-header : Tells (headerRight f) (OneToTen (trackCountIn f) × (zeroField f ≡ 0)) (NotOneToTen (trackCountIn f) ⊎ (zeroField f ≡ 0 → ⊥))
+  -- The test of the header decides whether it is right.
+  decides-header : Decides (headerRight f) (OneToTen (trackCountIn f) × (zeroField f ≡ 0)) (NotOneToTen (trackCountIn f) ⊎ (zeroField f ≡ 0 → ⊥))
   unfolding headerRight
-  tells-header = tells-and (tells-count (trackCountIn f)) (tells-eq (zeroField f) 0)
+  decides-header = decides-and (decides-count (trackCountIn f)) (decides-eq (zeroField f) 0)
 
-  -- The second test of the length tells whether the table is whole.
-  tells-table : Tells (leb (tableEnd (trackCountIn f)) (length f)) (tableEnd (trackCountIn f) ≤ length f) (length f < tableEnd (trackCountIn f))
-  tells-table = tells-le (tableEnd (trackCountIn f)) (length f)
+  -- The second test of the length decides whether the table is whole.
+  decides-table : Decides (leb (tableEnd (trackCountIn f)) (length f)) (tableEnd (trackCountIn f) ≤ length f) (length f < tableEnd (trackCountIn f))
+  decides-table = decides-le (tableEnd (trackCountIn f)) (length f)
 
-  -- The test of the offsets tells whether all are those that are due or one is not.
-  tells-offsets : Tells (offsetsRight f) ((k : ℕ) → k < trackCountIn f → offsetIn f k ≡ offsetDue f k) ((k : ℕ) × (k < trackCountIn f) × (offsetIn f k ≡ offsetDue f k → ⊥))
+  -- The test of the offsets decides whether all are those that are due or one is not.
+  decides-offsets : Decides (offsetsRight f) ((k : ℕ) → k < trackCountIn f → offsetIn f k ≡ offsetDue f k) ((k : ℕ) × (k < trackCountIn f) × (offsetIn f k ≡ offsetDue f k → ⊥))
   unfolding offsetsRight
-  tells-offsets = tells-all (trackCountIn f) (λ k. tells-eq (offsetIn f k) (offsetDue f k))
+  decides-offsets = decides-all (trackCountIn f) (λ k. decides-eq (offsetIn f k) (offsetDue f k))
 
-  -- The third test of the length tells whether it is the one that is due.
-  tells-end : Tells (eqb (length f) (offsetDue f (trackCountIn f))) (length f ≡ offsetDue f (trackCountIn f)) (length f ≡ offsetDue f (trackCountIn f) → ⊥)
-  tells-end = tells-eq (length f) (offsetDue f (trackCountIn f))
+  -- The third test of the length decides whether it is the one that is due.
+  decides-end : Decides (eqb (length f) (offsetDue f (trackCountIn f))) (length f ≡ offsetDue f (trackCountIn f)) (length f ≡ offsetDue f (trackCountIn f) → ⊥)
+  decides-end = decides-eq (length f) (offsetDue f (trackCountIn f))
 
-  -- The test of the spare bits tells whether all are zero or one of a track is not.
-  tells-clear : Tells (sparesClear f)
+  -- The test of the spare bits decides whether all are zero or one of a track is not.
+  decides-clear : Decides (sparesClear f)
       ((k : ℕ) → k < trackCountIn f → SparesZero (lengthIn f k) (packedIn f k))
       ((k : ℕ) × (k < trackCountIn f) × SpareSet (lengthIn f k) (packedIn f k))
   unfolding sparesClear
-  tells-clear = tells-all (trackCountIn f) (λ k. tells-spares (lengthIn f k) (packedIn f k))
+  decides-clear = decides-all (trackCountIn f) (λ k. decides-spares (lengthIn f k) (packedIn f k))
 
-  -- The test of what is lent for writing tells whether all three are long enough or one is not.
-  tells-room : Tells (roomFor f r)
+  -- The test of what is lent for writing decides whether all three are long enough or one is not.
+  decides-room : Decides (roomFor f r)
       ((sumTo (lengthIn f) (trackCountIn f) ≤ r .tracks) × ((sumTo (lengthIn f) (trackCountIn f) ≤ r .marks) × (trackCountIn f ≤ r .lengths)))
       ((r .tracks < sumTo (lengthIn f) (trackCountIn f)) ⊎ ((r .marks < sumTo (lengthIn f) (trackCountIn f)) ⊎ (r .lengths < trackCountIn f)))
   unfolding roomFor
-  tells-room =
+  decides-room =
       let n : ℕ = sumTo (lengthIn f) (trackCountIn f) in
-      tells-and (tells-le n (r .tracks)) (tells-and (tells-le n (r .marks)) (tells-le (trackCountIn f) (r .lengths)))
+      decides-and (decides-le n (r .tracks)) (decides-and (decides-le n (r .marks)) (decides-le (trackCountIn f) (r .lengths)))
 
   -- Every answer of reading says what the text gives for it.
   read-means : ReadMeans f r (answerOf (readCylinder f r) .number)
@@ -138,14 +126,14 @@ module _ (f : List ℕ) (r : Room) where
   read-means =
       let k : Unit {0} → Judged Cylinder = λ _. require (roomFor f r) bufferTooShort (good (cylinderIn f)) in
       let m : Judged (Unit {0}) → Type 0 = λ j. ReadMeans f r (answerOf (then j k) .number) in
-      told m tells-head fileLengthWrong _ (λ q. inl q)
-      (λ h. told m tells-header headerWrong _ (λ q. (h, q))
-      (λ n. told m tells-table fileLengthWrong _ (λ q. inr (inl ((h, n), q)))
-      (λ t. told m (tells-lengths (lengthIn f) (trackCountIn f)) lentWrong _ (λ q. (((h, n), t), q))
-      (λ l. told m tells-offsets offsetWrong _ (λ q. ((((h, n), t), l), q))
-      (λ o. told m tells-end fileLengthWrong _ (λ q. inr (inr (((((h, n), t), l), o), q)))
-      (λ e. told m tells-clear spareBitsSet _ (λ q. ((((((h, n), t), l), o), e), q))
-      (λ s. told (λ (j : Judged Cylinder). ReadMeans f r (answerOf j .number)) tells-room bufferTooShort (good (cylinderIn f)) (λ q. (((((((h, n), t), l), o), e), s), q))
+      decided m decides-head fileLengthWrong _ (λ q. inl q)
+      (λ h. decided m decides-header headerWrong _ (λ q. (h, q))
+      (λ n. decided m decides-table fileLengthWrong _ (λ q. inr (inl ((h, n), q)))
+      (λ t. decided m (decides-lengths (lengthIn f) (trackCountIn f)) lentWrong _ (λ q. (((h, n), t), q))
+      (λ l. decided m decides-offsets offsetWrong _ (λ q. ((((h, n), t), l), q))
+      (λ o. decided m decides-end fileLengthWrong _ (λ q. inr (inr (((((h, n), t), l), o), q)))
+      (λ e. decided m decides-clear spareBitsSet _ (λ q. ((((((h, n), t), l), o), e), q))
+      (λ s. decided (λ (j : Judged Cylinder). ReadMeans f r (answerOf j .number)) decides-room bufferTooShort (good (cylinderIn f)) (λ q. (((((((h, n), t), l), o), e), s), q))
       (λ b. (((((((h, n), t), l), o), e), s), b)))))))))
 
   -- An answer of reading says what the text gives for its number.
@@ -155,7 +143,7 @@ module _ (f : List ℕ) (r : Room) where
   -- Reading gives 18 exactly where the header is whole, and the number of tracks is not 1 to 10 or the zero field not zero.
   pub read-18 : (answerOf (readCylinder f r) ≡ headerWrong) ↔ WrongHeader f
   unfolding readCylinder judgeFile
-  read-18 = (read-says headerWrong, λ q. rw (tells-head .passed (q .0), tells-header .failed (q .1)))
+  read-18 = (read-says headerWrong, λ q. rw (decides-head .passed (q .0), decides-header .failed (q .1)))
 
   -- A file whose table is whole is judged by its Ls and what follows them alone.
   table-judged : WholeTable f → judgeFile f
@@ -165,26 +153,26 @@ module _ (f : List ℕ) (r : Room) where
       (require (sparesClear f) spareBitsSet
       (good tt))))
   unfolding judgeFile
-  table-judged q = rw (tells-head .passed (q .0 .0), tells-header .passed (q .0 .1), tells-table .passed (q .1))
+  table-judged q = rw (decides-head .passed (q .0 .0), decides-header .passed (q .0 .1), decides-table .passed (q .1))
 
   -- Reading gives 1 exactly where the table is whole, and an L in it is out of range.
   pub read-1 : (answerOf (readCylinder f r) ≡ lentWrong) ↔ WrongLength f
   unfolding readCylinder
-  read-1 = (read-says lentWrong, λ q. rw (table-judged (q .0), tells-lengths (lengthIn f) (trackCountIn f) .failed (q .1)))
+  read-1 = (read-says lentWrong, λ q. rw (table-judged (q .0), decides-lengths (lengthIn f) (trackCountIn f) .failed (q .1)))
 
   -- Reading gives 19 exactly where the Ls are right, and an offset is not the one that is due.
   pub read-19 : (answerOf (readCylinder f r) ≡ offsetWrong) ↔ WrongOffset f
   unfolding readCylinder
-  read-19 = (read-says offsetWrong, λ q. rw (table-judged (q .0 .0), tells-lengths (lengthIn f) (trackCountIn f) .passed (q .0 .1), tells-offsets .failed (q .1)))
+  read-19 = (read-says offsetWrong, λ q. rw (table-judged (q .0 .0), decides-lengths (lengthIn f) (trackCountIn f) .passed (q .0 .1), decides-offsets .failed (q .1)))
 
   -- A file whose offsets are right is judged by its length and its spare bits alone.
   offsets-judged : RightOffsets f → judgeFile f ≡ require (eqb (length f) (offsetDue f (trackCountIn f))) fileLengthWrong (require (sparesClear f) spareBitsSet (good tt))
-  offsets-judged q = rw (table-judged (q .0 .0), tells-lengths (lengthIn f) (trackCountIn f) .passed (q .0 .1), tells-offsets .passed (q .1))
+  offsets-judged q = rw (table-judged (q .0 .0), decides-lengths (lengthIn f) (trackCountIn f) .passed (q .0 .1), decides-offsets .passed (q .1))
 
   -- A file of another length than is due is answered by 20.
   wrong-end : WrongEnd f → answerOf (readCylinder f r) ≡ fileLengthWrong
   unfolding readCylinder
-  wrong-end q = rw (offsets-judged (q .0), tells-end .failed (q .1))
+  wrong-end q = rw (offsets-judged (q .0), decides-end .failed (q .1))
 
   -- Reading gives 20 exactly where the file ends within its header, or, with all before it right, within its table or elsewhere than the table gives.
   pub read-20 : (answerOf (readCylinder f r) ≡ fileLengthWrong) ↔ (CutHeader f ⊎ (CutTable f ⊎ WrongEnd f))
@@ -192,26 +180,26 @@ module _ (f : List ℕ) (r : Room) where
   read-20 = (
     read-says fileLengthWrong,
     ⊎-elim
-        (λ q. rw (tells-head .failed q))
+        (λ q. rw (decides-head .failed q))
         (⊎-elim
-        (λ q. rw (tells-head .passed (q .0 .0), tells-header .passed (q .0 .1), tells-table .failed (q .1)))
+        (λ q. rw (decides-head .passed (q .0 .0), decides-header .passed (q .0 .1), decides-table .failed (q .1)))
         wrong-end),
   )
 
   -- Reading gives 21 exactly where the length of the file is right, and a spare bit is set.
   pub read-21 : (answerOf (readCylinder f r) ≡ spareBitsSet) ↔ WrongSpare f
   unfolding readCylinder
-  read-21 = (read-says spareBitsSet, λ q. rw (offsets-judged (q .0 .0), tells-end .passed (q .0 .1), tells-clear .failed (q .1)))
+  read-21 = (read-says spareBitsSet, λ q. rw (offsets-judged (q .0 .0), decides-end .passed (q .0 .1), decides-clear .failed (q .1)))
 
   -- Reading gives 24 exactly where the file is right, and one of the three that are lent for writing is too short.
   pub read-24 : (answerOf (readCylinder f r) ≡ bufferTooShort) ↔ ShortRoom f r
   unfolding readCylinder
-  read-24 = (read-says bufferTooShort, λ q. rw (offsets-judged (q .0 .0 .0), tells-end .passed (q .0 .0 .1), tells-clear .passed (q .0 .1), tells-room .failed (q .1)))
+  read-24 = (read-says bufferTooShort, λ q. rw (offsets-judged (q .0 .0 .0), decides-end .passed (q .0 .0 .1), decides-clear .passed (q .0 .1), decides-room .failed (q .1)))
 
   -- Reading gives 0 exactly where the file is right, and each of the three that are lent for writing is long enough.
   pub read-0 : (answerOf (readCylinder f r) ≡ done) ↔ Readable f r
   unfolding readCylinder
-  read-0 = (read-says done, λ q. rw (offsets-judged (q .0 .0 .0), tells-end .passed (q .0 .0 .1), tells-clear .passed (q .0 .1), tells-room .passed (q .1)))
+  read-0 = (read-says done, λ q. rw (offsets-judged (q .0 .0 .0), decides-end .passed (q .0 .0 .1), decides-clear .passed (q .0 .1), decides-room .passed (q .1)))
 
   -- Reading gives any number exactly where the text gives it, and never a number that the text does not give.
   pub read-exactly : (n : ℕ) → (answerOf (readCylinder f r) .number ≡ n) ↔ ReadMeans f r n

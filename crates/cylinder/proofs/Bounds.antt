@@ -14,8 +14,8 @@ use Rattle.cylinder.specs.Cylinder.{Cylinder, trackCount, lengthOf, trac
 use Rattle.cylinder.specs.File.{storedSize, offsetOf, cylinderFile}
 use Rattle.cylinder.specs.Writing.{writeCylinder, fileBytes}
 use Rattle.cylinder.specs.Reading.{Room, readCylinder, cylinderRead}
-use Rattle.cylinder.proofs.Sizes.{track-count, cylinder-lent, length-file}
-use Rattle.cylinder.proofs.Sound.{length-most}
+use Rattle.cylinder.proofs.Sizes.{cylinder-lent, length-file}
+use Rattle.cylinder.proofs.Decides.{decides-count, decides-lengths}
 use Rattle.cylinder.proofs.RoundTrip.{read-lent}
 
 -- A cylinder that is read has ten tracks at most.
@@ -23,7 +23,7 @@ pub read-most : (f : List ℕ) (r : Room) → trackCount (cylinderRead (readCyli
 read-most f r = go (readCylinder f r) refl
   where
     go : (j : Judged Cylinder) → readCylinder f r ≡ j → trackCount (cylinderRead j) ≤ 10
-    go (good c) e = track-count (trackCount c) (read-lent f r c e .0) .1
+    go (good c) e = decides-count (trackCount c) .pass (read-lent f r c e .0) .1
     go (refused a) e = omega arith
 
 -- The file of a cylinder that is lent within the rule has 45,094 bytes at most,
@@ -33,8 +33,8 @@ file-most c e d =
     let r = cylinder-lent c d in
     let n = trackCount c in
     let l = lengthOf (c .lengths) in
-    let m = sum-most (λ j. storedSize (l j)) n 4503 (λ k h. omega (arith, length-most l n k (r .lengths-right) h .1)) in
-    omega (arith, length-file c r, m, track-count n e .1)
+    let m = sum-most (λ j. storedSize (l j)) n 4503 (λ k h. omega (arith, decides-lengths l n .pass (r .lengths-right) k h .1)) in
+    omega (arith, length-file c r, m, decides-count n .pass e .1)
 
 -- and no other is written.
 pub write-most : (c : Cylinder) (room : ℕ) → length (fileBytes (writeCylinder c room)) ≤ 45094

@@ -11,8 +11,8 @@ use Rattle.format.specs.Layout.{longestTrack}
 use Rattle.cylinder.specs.Cylinder.{Cylinder, trackCount, lengthOf, startOf, partOf, trackOf, trackMarksOf, trackCountRight, cylinderLent}
 use Rattle.cylinder.specs.Packed.{packed}
 use Rattle.cylinder.specs.File.{twoBytes, fourBytes, storedSize, offsetOf, header, entry, table, storedTrack, storedTracks, cylinderFile}
-use Rattle.cylinder.proofs.Sizes.{track-count, cylinder-lent}
-use Rattle.cylinder.proofs.Sound.{length-most}
+use Rattle.cylinder.proofs.Sizes.{cylinder-lent}
+use Rattle.cylinder.proofs.Decides.{decides-count, decides-lengths}
 use Rattle.cylinder.proofs.Packed.{packed-bytes}
 use Rattle.cylinder.proofs.Parts.{Each, append-keeps, join-keeps, part-keeps}
 
@@ -46,8 +46,8 @@ unfolding cylinderFile table entry storedTracks storedTrack partOf
 file-bytes c r e b =
     let n : ℕ = trackCount c in
     let l : ℕ → ℕ = lengthOf (c .lengths) in
-    let t = track-count n r in
-    let most : (k : ℕ) → k < n → l k ≤ longestTrack = λ k h. length-most l n k (cylinder-lent c e .lengths-right) h .1 in
+    let t = decides-count n .pass r in
+    let most : (k : ℕ) → k < n → l k ≤ longestTrack = λ k h. decides-lengths l n .pass (cylinder-lent c e .lengths-right) k h .1 in
     let entries = join-keeps Byte (entry n l) n (λ k h.
     append-keeps Byte (twoBytes (l k)) _ (two-bytes (l k) (omega (arith, most k h))) (four-bytes (offsetOf n l k) (offset-small n l k (t .1) h most))) in
     let tracks = join-keeps Byte (storedTrack c) n (λ k h.

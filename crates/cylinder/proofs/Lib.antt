@@ -1,4 +1,5 @@
--- The laws of a cylinder's file: packed marks, lengths, what is known of a file that is read, the round trip, the answers, and worked values.
+-- The laws of a cylinder's file: what each test decides, packed marks, lengths, what is known of a file that is read, the round trip, the answers, and worked values.
+pub mod Decides
 pub mod Packed
 pub mod Sizes
 pub mod Sound
@@ -8,7 +9,6 @@ pub mod WrittenFile
 pub mod HeldCylinder
 pub mod FileBytes
 pub mod RoundTrip
-pub mod Tells
 pub mod Answers
 pub mod Places
 pub mod Bounds

@@ -1,20 +1,21 @@
 -- Packing undoes unpacking of marks, and unpacking packing; the spare bits.
 use mathlib.Core.Path.{_≡_, refl, sym, ap, _∙_, subst}
-use Prim.Native.Nat.{ℕ, zero, suc, _+_, _-_, _*_, _/_, _%_, _≤_, _<_}
+use Prim.Native.Nat.{ℕ, zero, suc, _+_, _*_, _/_, _%_, _≤_, _<_}
 use native.Mathlib.Nat.{add-zero}
 use native.Mathlib.Omega.{arith}
-use mathlib.Core.Bool.{true, false}
+use mathlib.Core.Bool.{true}
 use mathlib.Core.List.{List}
 use lib.ListN.{length, getD, List·getD-eq-default}
-use lib.Dec.{eqb, ltb}
-use borrow.Author.Tests.{eqb-true, eq-eqb, ne-eqb, ltb-true, ltb-false}
-use Rattle.base.proofs.Indexed.{all-holds, each-holds, one-fails, length-list, getD-list, list-is}
+use lib.Dec.{ltb}
+use borrow.Author.Tests.{ltb-true, ltb-false}
+use Rattle.base.proofs.Indexed.{length-list, getD-list, list-is}
 use Rattle.base.proofs.Tests.{cases}
 use Rattle.crc.specs.Halves.{AllBytes}
 use Rattle.crc.proofs.Bytes.{all-bytes, byte-at}
 use Rattle.format.specs.Lent.{marksLegal}
 use Rattle.format.proofs.Base.Marks.{mark-at, marks-at}
 use Rattle.cylinder.specs.Packed.{packedSize, octet, octetAt, packed, bitOf, markAt, unpacked, spareClear}
+use Rattle.cylinder.proofs.Decides.{decides-spares}
 
 -- The bytes of marks are as many as those marks take.
 pub length-packed : (m : List ℕ) → length (packed m) ≡ packedSize (length m)
@@ -100,31 +101,10 @@ unpacked-legal l bs =
     let g : i < l = omega (arith, length-unpacked l bs) in
     omega (arith, getD-list (markAt bs) l i 0 g, bit-small (getD bs (i / 8) 0) (i % 8)))
 
--- Where every bit behind the first l is 0 the spare bits are clear,
-pub spare-holds : (l : ℕ) (bs : List ℕ) → ((i : ℕ) → l ≤ i → i < packedSize l * 8 → markAt bs i ≡ 0) → spareClear l bs ≡ true
-unfolding spareClear
-spare-holds l bs h =
-    each-holds (λ j. eqb (markAt bs (l + j)) 0) (packedSize l * 8 - l) (λ j k. eq-eqb _ 0 (h (l + j) (omega arith) (omega arith)))
-
--- where one is set they are not,
-pub spare-fails : (l i : ℕ) (bs : List ℕ) → l ≤ i → i < packedSize l * 8 → (markAt bs i ≡ 0 → ⊥) → spareClear l bs ≡ false
-unfolding spareClear
-spare-fails l i bs h k n =
-    let e : l + (i - l) ≡ i = omega arith in
-    one-fails (λ j. eqb (markAt bs (l + j)) 0) (packedSize l * 8 - l) (i - l) (omega arith) (rw e (ne-eqb (markAt bs i) 0 n))
-
--- and where they are clear every bit behind the first l is 0.
-pub spare-at : (l i : ℕ) (bs : List ℕ) → spareClear l bs ≡ true → l ≤ i → i < packedSize l * 8 → markAt bs i ≡ 0
-unfolding spareClear
-spare-at l i bs s h k =
-    let e : l + (i - l) ≡ i = omega arith in
-    let a = all-holds (λ j. eqb (markAt bs (l + j)) 0) (packedSize l * 8 - l) (i - l) s (omega arith) in
-    ap (markAt bs) (sym e) ∙ eqb-true (markAt bs (l + (i - l))) 0 a
-
 -- The spare bits of packed marks are clear.
 pub spare-packed : (m : List ℕ) → spareClear (length m) (packed m) ≡ true
 spare-packed m =
-    spare-holds (length m) (packed m) (λ i h k.
+    decides-spares (length m) (packed m) .passed (λ i h k.
     mark-packed m i k ∙ omega (arith, List·getD-eq-default m 0 {n = i} h))
 
 -- The mark at place k of byte j is bit k of that byte.
@@ -162,7 +142,7 @@ module _ (l : ℕ) (bs : List ℕ) (size : length bs ≡ packedSize l) (bytes : 
       (λ e.
       let g : l ≤ j * 8 + k = ltb-false _ _ e in
       List·getD-eq-default (unpacked l bs) 0 (omega (arith, length-unpacked l bs))
-      ∙ sym (spare-at l (j * 8 + k) bs clear g (omega arith))
+      ∙ sym (decides-spares l bs .pass clear (j * 8 + k) g (omega arith))
       ∙ mark-in bs j k n)
 
   -- The byte of these eight is byte j.

@@ -5,22 +5,17 @@ use native.Mathlib.Omega.{arith}
 use mathlib.Core.Bool.{true, _&&_}
 use mathlib.Core.List.{List, _++_}
 use lib.ListN.{length, length-append}
-use lib.Dec.{leb, eqb}
-use borrow.Author.Tests.{leb-true, eqb-true}
+use lib.Dec.{eqb}
+use borrow.Author.Tests.{eqb-true}
 use Rattle.base.specs.Indexed.{sumTo, joinTo}
 use Rattle.base.proofs.Lists.{part-length}
 use Rattle.base.proofs.Tests.{and-both}
 use Rattle.base.proofs.Indexed.{sum-within, sum-same, length-join, sum-const}
 use Rattle.format.specs.Lent.{marksLegal}
-use Rattle.cylinder.specs.Cylinder.{Cylinder, trackCount, lengthOf, startOf, partOf, trackOf, trackMarksOf, trackCountRight, lengthsRight, cylinderLent}
+use Rattle.cylinder.specs.Cylinder.{Cylinder, trackCount, lengthOf, startOf, partOf, trackOf, trackMarksOf, lengthsRight, cylinderLent}
 use Rattle.cylinder.specs.Packed.{packed}
 use Rattle.cylinder.specs.File.{twoBytes, fourBytes, headerLength, entryLength, tableEnd, storedSize, offsetOf, header, entry, table, storedTrack, storedTracks, cylinderFile}
 use Rattle.cylinder.proofs.Packed.{length-packed}
-
--- A right number of tracks is 1 to 10.
-pub track-count : (n : ℕ) → trackCountRight n ≡ true → (1 ≤ n) × (n ≤ 10)
-unfolding trackCountRight
-track-count n e = let b = and-both (leb 1 n) (leb n 10) e in (leb-true _ _ (b .0), leb-true _ _ (b .1))
 
 -- The header has four bytes.
 pub length-header : (n : ℕ) → length (header n) ≡ headerLength

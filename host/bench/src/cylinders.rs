@@ -3,10 +3,9 @@
 //! The bytes that are counted are those of the file: each call goes at least once over all of them, Read cylinder from the file and Write cylinder to it.
 //! The plain copy is that of one slice of the file's length to another. It moves less: in memory each mark is a byte, and the calls judge what they move.
 
-use crate::TURNS;
+use crate::{time, TURNS};
 use reference::generate::{cylinder_file, cylinder_of, sound, Cylinder};
-use std::hint::black_box;
-use std::time::{Duration, Instant};
+use std::time::Duration;
 
 /// Cylinders of a pack.
 const CYLINDERS: u64 = 203;
@@ -112,15 +111,6 @@ fn write_theirs(job: &mut Job) -> (u8, usize) {
 fn copy(job: &mut Job) -> (u8, usize) {
     job.new.file.copy_from_slice(&job.file);
     (0, job.file.len())
-}
-
-/// The time of one call over the whole pack.
-fn time(jobs: &mut [Job], call: Call) -> Duration {
-    let start = Instant::now();
-    for job in jobs {
-        black_box(call(black_box(job)));
-    }
-    start.elapsed()
 }
 
 /// Demands that both do what is asked and give and write the same.

@@ -35,8 +35,8 @@ const CELL_CALLS: [Row; 2] = [
     ("to_cells", to_cells_ours, to_cells_theirs),
 ];
 
-/// The time of one call over the whole pack.
-fn time(jobs: &mut [Job], call: Call) -> Duration {
+/// The time of one call over a whole pack, of tracks or of cylinders.
+fn time<J, R>(jobs: &mut [J], call: fn(&mut J) -> R) -> Duration {
     let start = Instant::now();
     for job in jobs {
         black_box(call(black_box(job)));

@@ -7,7 +7,7 @@ use borrow.Author.Tests.{eqb-true, eqb-false}
 use lib.Dec.{eqb}
 use Rattle.base.proofs.Tests.{cases}
 use Rattle.cylinder.specs.Packed.{markAt}
-use Rattle.cylinder.proofs.Packed.{spare-holds, spare-fails}
+use Rattle.cylinder.proofs.Decides.{decides-spares}
 use Rattle.cylinder_file.proofs.packing.spare_clear.Statement.{statement}
 use Rattle.cylinder_file.proofs.packing.spare_clear.Tie as tie
 
@@ -37,7 +37,7 @@ unfolding markAt
 returns c =
     let a = c .before .before .before .before .before .before .args in
     let l = c .before .before .before .before .loop in
-    sym (spare-fails (a .l) (l .i) (a .bytes .now) (omega arith) (omega arith) (λ e. c .if1 .taken (c .before .bit-of .ensures ∙ e)))
+    sym (decides-spares (a .l) (a .bytes .now) .failed (l .i, omega arith, omega arith, λ e. c .if1 .taken (c .before .bit-of .ensures ∙ e)))
 
 add-i : tie.Need-add-i Inv-loop μ-loop
 add-i c = search needs
@@ -60,7 +60,7 @@ returns-2 : tie.Need-returns-2 Inv-loop μ-loop
 returns-2 c =
     let a = c .before .before .before .args in
     let l = c .before .loop in
-    sym (spare-holds (a .l) (a .bytes .now) (λ j h k. l .inv .2 j h (omega arith)))
+    sym (decides-spares (a .l) (a .bytes .now) .passed (λ j h k. l .inv .2 j h (omega arith)))
 
 pub spare-clear-spec : {M : Type 1} → statement M
 spare-clear-spec =

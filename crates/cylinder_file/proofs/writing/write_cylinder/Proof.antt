@@ -3,7 +3,8 @@ use mathlib.Core.Path.{refl, sym, _∙_}
 use lib.ListN.{length}
 use borrow.Author.Tests.{not-true, not-false}
 use Rattle.base.proofs.Filling.{over-nothing}
-use Rattle.cylinder.proofs.Sizes.{track-count, cylinder-lent, length-file}
+use Rattle.cylinder.proofs.Decides.{decides-count}
+use Rattle.cylinder.proofs.Sizes.{cylinder-lent, length-file}
 use Rattle.cylinder.proofs.RoundTrip.{lent-write}
 use Rattle.cylinder_file.specs.Writing.{lent}
 use Rattle.cylinder_file.proofs.Outcome.{write-count, write-wrong, write-short}
@@ -24,7 +25,7 @@ returns c =
     rw (write-count (lent (a .tracks .now) (a .marks .now) (a .lengths .now)) (length (a .file .now)) n) (c .header-wrong .ensures, (refl, sym (over-nothing (a .file .now))))
 
 cylinder-lent-requires : tie.Need-cylinder-lent-requires
-cylinder-lent-requires c κs = track-count _ (sym (c .before .track-count-right .ensures) ∙ not-false _ (c .if1 .left)) .1
+cylinder-lent-requires c κs = decides-count _ .pass (sym (c .before .track-count-right .ensures) ∙ not-false _ (c .if1 .left)) .1
 
 lent-wrong-requires : tie.Need-lent-wrong-requires
 lent-wrong-requires c κs = search needs
@@ -37,7 +38,7 @@ returns-2 c =
     rw (write-wrong (lent (a .tracks .now) (a .marks .now) (a .lengths .now)) (length (a .file .now)) n d) (c .lent-wrong .ensures, (refl, sym (over-nothing (a .file .now))))
 
 file-length-requires : tie.Need-file-length-requires
-file-length-requires c κs = track-count _ (sym (c .before .before .before .track-count-right .ensures) ∙ not-false _ (c .before .before .if1 .left)) .1
+file-length-requires c κs = decides-count _ .pass (sym (c .before .before .before .track-count-right .ensures) ∙ not-false _ (c .before .before .if1 .left)) .1
 
 buffer-too-short-requires : tie.Need-buffer-too-short-requires
 buffer-too-short-requires c κs = search needs
@@ -58,7 +59,7 @@ put-file-requires c κs =
     let n = sym (c .before .before .before .before .before .before .track-count-right .ensures) ∙ not-false _ (c .before .before .before .before .before .if1 .left) in
     let d = sym (c .before .before .before .before .cylinder-lent .ensures) ∙ not-false _ (c .before .before .before .if2 .left) in
     let z = c .before .before .file-length .ensures ∙ sym (length-file r (cylinder-lent r d)) in
-    (track-count _ n .1, (d, rw (← z) (c .before .if3 .left)))
+    (decides-count _ .pass n .1, (d, rw (← z) (c .before .if3 .left)))
 
 done-requires : tie.Need-done-requires
 done-requires c κs = search needs

@@ -1,4 +1,4 @@
--- What a test tells: the fact that stands where it holds, and the one that stands where it fails.
+-- What a test decides: the fact that stands where it holds, and the one that stands where it fails.
 use mathlib.Core.Path.{_≡_, sym, ap, _∙_}
 use mathlib.Core.Logic.{_⊎_, inl, inr, ⊎-elim}
 use Prim.Native.Nat.{ℕ, zero, suc, _+_, _-_, _*_, _≤_, _<_}
@@ -13,22 +13,23 @@ use Rattle.base.proofs.Tests.{cases, false-true, and-both, and-make, and-right}
 use Rattle.base.proofs.Indexed.{all-holds}
 use Rattle.format.specs.Answer.{Answer}
 use Rattle.format.specs.Judged.{Judged, refused, require, answerOf}
-use Rattle.format.specs.Lent.{marksLegal}
+use Rattle.format.specs.Layout.{shortestTrack, longestTrack}
+use Rattle.format.specs.Lent.{lengthRight, marksLegal}
 use Rattle.format.proofs.Base.Marks.{mark-at}
+use Rattle.cylinder.specs.Cylinder.{trackCountRight, lengthsRight}
 use Rattle.cylinder.specs.Packed.{packedSize, markAt, spareClear}
-use Rattle.cylinder.specs.Answers.{MarksBinary, MarkOther, SparesZero, SpareSet}
-use Rattle.cylinder.proofs.Packed.{spare-at}
+use Rattle.cylinder.specs.Answers.{OneToTen, NotOneToTen, LengthsAllowed, LengthForbidden, MarksBinary, MarkOther, SparesZero, SpareSet}
 
 -- The test b holds exactly where P does, and fails exactly where Q does.
-pub record Tells (b : Bool) (P Q : Type 0) : Type 0 where
+pub record Decides (b : Bool) (P Q : Type 0) : Type 0 where
   pub pass : b ≡ true → P
   pub fail : b ≡ false → Q
   pub passed : P → b ≡ true
   pub failed : Q → b ≡ false
 
--- A test that shows P or Q, which exclude each other, tells them.
-tells : {b : Bool} {P Q : Type 0} → (b ≡ true → P) → (b ≡ false → Q) → (P → Q → ⊥) → Tells b P Q
-tells {b} p q e =
+-- A test that shows P or Q, which exclude each other, decides them.
+decides-by : {b : Bool} {P Q : Type 0} → (b ≡ true → P) → (b ≡ false → Q) → (P → Q → ⊥) → Decides b P Q
+decides-by {b} p q e =
     record {
       pass = p;
       fail = q;
@@ -36,17 +37,17 @@ tells {b} p q e =
       failed = λ y. cases b (λ h. absurd (e (p h) y)) (λ h. h);
     }
 
--- The test of order tells which of two numbers is no more than the other.
-pub tells-le : (a b : ℕ) → Tells (leb a b) (a ≤ b) (b < a)
-tells-le a b = tells (leb-true a b) (leb-false a b) (λ x y. omega arith)
+-- The test of order decides which of two numbers is no more than the other.
+pub decides-le : (a b : ℕ) → Decides (leb a b) (a ≤ b) (b < a)
+decides-le a b = decides-by (leb-true a b) (leb-false a b) (λ x y. omega arith)
 
--- The test of equality tells whether two numbers are the same.
-pub tells-eq : (a b : ℕ) → Tells (eqb a b) (a ≡ b) (a ≡ b → ⊥)
-tells-eq a b = tells (eqb-true a b) (eqb-false a b) (λ x y. y x)
+-- The test of equality decides whether two numbers are the same.
+pub decides-eq : (a b : ℕ) → Decides (eqb a b) (a ≡ b) (a ≡ b → ⊥)
+decides-eq a b = decides-by (eqb-true a b) (eqb-false a b) (λ x y. y x)
 
 -- Two tests together tell both facts where they hold, and one of the other two where not.
-pub tells-and : {a b : Bool} {P Q R S : Type 0} → Tells a P Q → Tells b R S → Tells (a && b) (P × R) (Q ⊎ S)
-tells-and {a} {b} s t =
+pub decides-and : {a b : Bool} {P Q R S : Type 0} → Decides a P Q → Decides b R S → Decides (a && b) (P × R) (Q ⊎ S)
+decides-and {a} {b} s t =
     record {
       pass = λ e. let h = and-both a b e in (s .pass (h .0), t .pass (h .1));
       fail = λ e. cases a (λ h. inr (t .fail (rw h at e))) (λ h. inl (s .fail h));
@@ -64,12 +65,22 @@ one-failed p (suc n) e =
     (λ h. let q = one-failed p n h in (q .0, omega (arith, q .1), q .2))
 
 -- The first n tests together tell the fact of each where they hold, and the other of one of them where not.
-pub tells-all : {p : ℕ → Bool} {P Q : ℕ → Type 0} (n : ℕ) → ((k : ℕ) → Tells (p k) (P k) (Q k)) → Tells (allTo p n) ((k : ℕ) → k < n → P k) ((k : ℕ) × (k < n) × Q k)
-tells-all {p} n t =
-    tells
+pub decides-all : {p : ℕ → Bool} {P Q : ℕ → Type 0} (n : ℕ) → ((k : ℕ) → Decides (p k) (P k) (Q k)) → Decides (allTo p n) ((k : ℕ) → k < n → P k) ((k : ℕ) × (k < n) × Q k)
+decides-all {p} n t =
+    decides-by
     (λ e k h. t k .pass (all-holds p n k e h))
     (λ e. let q = one-failed p n e in (q .0, q .1, t (q .0) .fail (q .2)))
     (λ x y. false-true (sym (t (y .0) .failed (y .2)) ∙ t (y .0) .passed (x (y .0) (y .1))))
+
+-- The test of the number of tracks decides whether it is 1 to 10.
+pub decides-count : (n : ℕ) → Decides (trackCountRight n) (OneToTen n) (NotOneToTen n)
+unfolding trackCountRight
+decides-count n = decides-and (decides-le 1 n) (decides-le n 10)
+
+-- The test of the Ls decides whether all are in range or one is not.
+pub decides-lengths : (l : ℕ → ℕ) (n : ℕ) → Decides (lengthsRight l n) (LengthsAllowed l n) (LengthForbidden l n)
+unfolding lengthsRight lengthRight
+decides-lengths l n = decides-all n (λ k. decides-and (decides-le shortestTrack (l k)) (decides-le (l k) longestTrack))
 
 -- Where marks are not legal one of them is not.
 mark-out : (m : List ℕ) → marksLegal m ≡ false → MarkOther m
@@ -80,22 +91,25 @@ mark-out (k ∷ m) e =
     (λ h. let q = mark-out m (rw h at e) in (suc (q .0), omega (arith, q .1), q .2))
     (λ h. (0, omega arith, ltb-false k 2 h))
 
--- The test of marks tells whether all are 0 or 1 or one is not.
-pub tells-marks : (m : List ℕ) → Tells (marksLegal m) (MarksBinary m) (MarkOther m)
-tells-marks m = tells (λ e i h. omega (arith, mark-at m e i h)) (mark-out m) (λ x y. omega (arith, x (y .0) (y .1), y .2))
+-- The test of marks decides whether all are 0 or 1 or one is not.
+pub decides-marks : (m : List ℕ) → Decides (marksLegal m) (MarksBinary m) (MarkOther m)
+decides-marks m = decides-by (λ e i h. omega (arith, mark-at m e i h)) (mark-out m) (λ x y. omega (arith, x (y .0) (y .1), y .2))
 
--- The test of the spare bits of l marks tells whether all are zero or one is not.
-pub tells-spares : (l : ℕ) (bs : List ℕ) → Tells (spareClear l bs) (SparesZero l bs) (SpareSet l bs)
+-- The test of the spare bits of l marks decides whether all are zero or one is not.
+pub decides-spares : (l : ℕ) (bs : List ℕ) → Decides (spareClear l bs) (SparesZero l bs) (SpareSet l bs)
 unfolding spareClear
-tells-spares l bs =
-    tells
-    (λ e i h k. spare-at l i bs e h k)
+decides-spares l bs =
+    decides-by
+    (λ e i h k.
+    let q : l + (i - l) ≡ i = omega arith in
+    let a = all-holds (λ j. eqb (markAt bs (l + j)) 0) (packedSize l * 8 - l) (i - l) e (omega arith) in
+    ap (markAt bs) (sym q) ∙ eqb-true (markAt bs (l + (i - l))) 0 a)
     (λ e. let q = one-failed (λ j. eqb (markAt bs (l + j)) 0) (packedSize l * 8 - l) e in (l + q .0, omega arith, omega (arith, q .1), eqb-false _ 0 (q .2)))
     (λ x y. y .3 (x (y .0) (y .1) (y .2)))
 
 -- Of an outcome behind a test a fact may be shown twice: of the refusal where the test fails, and of what comes after it where it holds.
-pub told : {A : Type 0} (M : Judged A → Type 0) {b : Bool} {P Q : Type 0} → Tells b P Q → (a : Answer) (j : Judged A) → (Q → M (refused a)) → (P → M j) → M (require b a j)
-told M {b} t a j f g = cases b (λ e. rw e (g (t .pass e))) (λ e. rw e (f (t .fail e)))
+pub decided : {A : Type 0} (M : Judged A → Type 0) {b : Bool} {P Q : Type 0} → Decides b P Q → (a : Answer) (j : Judged A) → (Q → M (refused a)) → (P → M j) → M (require b a j)
+decided M {b} t a j f g = cases b (λ e. rw e (g (t .pass e))) (λ e. rw e (f (t .fail e)))
 
 -- Where the row of number n is found among rows, and each of them leads to its answer, the answer has number n.
 pub row : {A X Y : Type 0} (j : Judged A) (n : ℕ) (a : Answer) → (X → answerOf j ≡ a) → (Y → answerOf j .number ≡ n) → pick (eqb n (a .number)) X Y → answerOf j .number ≡ n
