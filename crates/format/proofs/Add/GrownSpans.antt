@@ -20,7 +20,8 @@ use Rattle.format.proofs.Spans.Cutting.{shape-cons, shape-head, shape-t
 use Rattle.base.proofs.Tests.{and-both, and-make}
 use Rattle.format.proofs.Sector.ReadsAs.{Reads}
 use Rattle.format.proofs.Track.SharedAddress.{AllName, MaySettle, settle-named}
-use Rattle.format.proofs.Sector.Regapped.{blockPlace, regapped, place-in, read-first, end-placed}
+use Rattle.format.proofs.Sector.ReadSector.{read-inv, read-first}
+use Rattle.format.proofs.Sector.Regapped.{blockPlace, regapped, place-in, end-placed}
 use Rattle.format.proofs.Written.WrittenEnds.{gapsOf}
 use Rattle.format.proofs.Written.ShortenedSpan.{shortened, length-shortened, read-shortened, place-shortened, clean-shortened, shape-shortened}
 
@@ -102,10 +103,10 @@ module _ (h : Home) (i : ℕ) (x : Settled) (p : ℕ) (g : List ℕ) (s : Sector
   inside = omega (arith, place-in i g h x p true s e)
 
   old-end : endOf (placedAt p g s) ≡ p + blockPlace i g
-  old-end = end-placed i p g s (read-first h i x p true g s e)
+  old-end = end-placed i p g s (read-first h i x true g s (read-inv h i x p true g s e))
 
   same-end : endOf (placedAt p (shortened i g m) s) ≡ endOf (placedAt p g s)
-  same-end = omega (arith, end-placed i p (shortened i g m) s (read-first h i x p true g s e), old-end, place-shortened i g m inside)
+  same-end = omega (arith, end-placed i p (shortened i g m) s (read-first h i x true g s (read-inv h i x p true g s e)), old-end, place-shortened i g m inside)
 
   next-opening : p + length (shortened i g m) ≡ endOf (placedAt p g s) + m
   next-opening = omega (arith, length-shortened i g m inside, old-end)
@@ -150,7 +151,7 @@ gaps-grown h i x p g (k ∷ gs) s (t ∷ ss) m w n e =
 pub end-in : (h : Home) (i : ℕ) (x : Settled) (p : ℕ) (g : List ℕ) (gs : List (List ℕ)) (s : Sector) (ss : List Sector) → Reads h i x p (g ∷ gs) (s ∷ ss)
     → endOf (lastPlaced p g gs s ss) + 13 ≤ p + length (joined (g ∷ gs))
 unfolding placedFrom leastGap
-end-in h i x p g [] s ss e = omega (arith, end-placed i p g s (read-first h i x p true g s (e .0)), place-in i g h x p true s (e .0), length-append g [])
+end-in h i x p g [] s ss e = omega (arith, end-placed i p g s (read-first h i x true g s (read-inv h i x p true g s (e .0))), place-in i g h x p true s (e .0), length-append g [])
 end-in h i x p g (k ∷ gs) s [] e = absurd (e .1)
 end-in h i x p g (k ∷ gs) s (t ∷ ss) e =
     omega (arith, end-in h (suc i) (settle x s) (p + length g) k gs t ss (e .1), length-append g (joined (k ∷ gs)))
@@ -163,7 +164,7 @@ unfolding grown placedFrom regapped
 joined-grown xs h i x p g [] s ss m w l e =
     let n : ℕ = blockPlace i g in
     let inside : n ≤ length g = omega (arith, place-in i g h x p true s (e .0)) in
-    let place : endOf (placedAt p g s) ≡ length xs + n = omega (arith, end-placed i p g s (read-first h i x p true g s (e .0))) in
+    let place : endOf (placedAt p g s) ≡ length xs + n = omega (arith, end-placed i p g s (read-first h i x true g s (read-inv h i x p true g s (e .0)))) in
     let kept : take (endOf (placedAt p g s)) (xs ++ (g ++ [])) ≡ xs ++ take n g =
     ap (λ (j : ℕ). take j (xs ++ (g ++ []))) place ∙ take-append-add xs (g ++ []) n ∙ ap (λ (z : List ℕ). xs ++ z) (take-append-le n g [] inside) in
     rw kept (simp (append-assoc, append-nil))

@@ -23,11 +23,11 @@ use Rattle.format.specs.Find.{carrying}
 use Rattle.format.specs.Burst.{placedRest}
 use Rattle.format.proofs.Spans.Shape.{Shape}
 use Rattle.format.proofs.Spans.Cutting.{shape-cons, shape-head, shape-tail}
-use Rattle.format.proofs.Sector.ReadSector.{ReadAs, restOf, read-inv, span-least}
+use Rattle.format.proofs.Sector.ReadSector.{ReadAs, restOf, read-inv, read-first, span-least}
 use Rattle.format.proofs.Sector.ReadsAs.{Reads}
 use Rattle.format.proofs.Sector.OtherRest.{withRest, length-with-rest, rest-with-rest, opened-with-rest, clean-with-rest, shape-with-rest}
 use Rattle.format.proofs.Track.Sectors.{Distinct, numbersOf}
-use Rattle.format.proofs.Find.SpanCandidates.{passing, candidateIn, candidatesOf, AtPosition, position-next, read-some, read-first, candidates-span, candidates-read, candidates-reads}
+use Rattle.format.proofs.Find.SpanCandidates.{passing, candidateIn, candidatesOf, AtPosition, position-next, read-some, candidates-span, candidates-read, candidates-reads}
 use Rattle.format.proofs.Find.FindAccepted.{ReadWell, read-well, reads-all, member-among, carrying-none}
 use Rattle.format.proofs.Bursts.AlteredSpan.{alteredSpans, shape-altered, clean-altered}
 

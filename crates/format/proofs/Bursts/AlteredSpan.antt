@@ -20,10 +20,9 @@ use Rattle.format.specs.Burst.{placedRest, placedStart}
 use Rattle.format.proofs.Spans.Shape.{Shape, FirstReaches}
 use Rattle.format.proofs.Spans.Cutting.{shape-cons, shape-head, shape-tail}
 use Rattle.format.proofs.Spans.Marks.{clean-marks}
-use Rattle.format.proofs.Sector.ReadSector.{ReadAs, restOf, read-inv, span-least}
+use Rattle.format.proofs.Sector.ReadSector.{ReadAs, restOf, read-inv, read-first, span-least}
 use Rattle.format.proofs.Sector.ReadsAs.{Reads}
 use Rattle.format.proofs.Sector.OtherRest.{withRest, length-with-rest, clean-with-rest, shape-with-rest}
-use Rattle.format.proofs.Sector.Regapped.{read-first}
 use Rattle.format.proofs.Track.HomeLocal.{home-local}
 use Rattle.format.proofs.Track.AcceptedSpans.{Track, spans-found}
 use Rattle.format.proofs.Faults.AcceptFault.{ComesTo}
@@ -95,7 +94,7 @@ module _ (y : Placed) (z : List ℕ) where
   stands-first h i x p g gs s r c e =
       let o : ℕ = openingLength (isFirst i) in
       let v = read-inv h i x p (none gs) g s r in
-      let f : s .first ≡ isFirst i = read-first h i x p (none gs) g s r in
+      let f : s .first ≡ isFirst i = read-first h i x (none gs) g s v in
       let within : o ≤ length g = omega (arith, span-least h i x (none gs) g s v) in
       let rest : placedRest y ≡ drop o g = ap placedRest e ∙ ap (λ (b : Bool). drop (openingLength b) g) f in
       record {
@@ -152,7 +151,7 @@ module _ (y : Placed) (z : List ℕ) where
   reaches-altered h i x p n (g ∷ []) (s ∷ ss) (inl e) r l o f = tt
   reaches-altered h i x p n (g ∷ []) (s ∷ ss) (inr m) r l o f = absurd m
   reaches-altered h i x p n (g ∷ k ∷ gs) (s ∷ ss) (inl e) r l o f =
-      let size : length z ≡ length (restOf i g) = l ∙ ap (λ (q : Placed). length (placedRest q)) e ∙ ap (λ (b : Bool). length (drop (openingLength b) g)) (read-first h i x p false g s (r .0)) in
+      let size : length z ≡ length (restOf i g) = l ∙ ap (λ (q : Placed). length (placedRest q)) e ∙ ap (λ (b : Bool). length (drop (openingLength b) g)) (read-first h i x false g s (read-inv h i x p false g s (r .0))) in
       omega (arith, length-with-rest i g z (omega arith), length-drop (openingLength (isFirst i)) g)
   reaches-altered h i x p n (g ∷ k ∷ gs) (s ∷ ss) (inr m) r l o f = cons (alteredSpans (suc i) (p + length g) (k ∷ gs) ss m)
     where

@@ -22,10 +22,10 @@ use Rattle.format.proofs.Spans.Cutting.{joined-spans, shape-spans, late
 use Rattle.format.proofs.Track.HomeLocal.{judged-place}
 use Rattle.format.proofs.Spans.SpanAgrees.{first-by-mark}
 use Rattle.format.proofs.Spans.Marks.{marks-clean}
-use Rattle.format.proofs.Sector.ReadSector.{read-inv}
+use Rattle.format.proofs.Sector.ReadSector.{read-inv, read-first}
 use Rattle.format.proofs.Sector.ReadsAs.{Reads, accepted-by, none-placed}
 use Rattle.format.proofs.Track.AcceptedSpans.{Track, acceptedOf, accepted-track}
-use Rattle.format.proofs.Find.SpanCandidates.{candidatesOf, joined-seam, passed-over, shape-rest, candidates-reads, read-first}
+use Rattle.format.proofs.Find.SpanCandidates.{candidatesOf, joined-seam, passed-over, shape-rest, candidates-reads}
 
 -- A home that is judged was found at its place.
 pub home-found : (c : List ℕ) (h : Home) → judgeHome c ≡ good h → findHome c ≡ good (h .place)

@@ -23,11 +23,11 @@ use Rattle.format.specs.Find.{partOf, carrying, only, candidatePart, fin
 use Rattle.format.specs.Blocks.{Wanted, theKey, theData, Part, judgeFit, partIn}
 use Rattle.base.proofs.Tests.{cases, false-true}
 use Rattle.base.specs.Lists.{Member}
-use Rattle.format.proofs.Sector.ReadSector.{ReadAs, restOf, read-inv}
+use Rattle.format.proofs.Sector.ReadSector.{ReadAs, restOf, read-inv, read-first}
 use Rattle.format.proofs.Sector.ReadsAs.{Reads, AcceptedBy, accepted-by, none-placed}
 use Rattle.format.proofs.Track.Pairs.{accepted-pair}
 use Rattle.format.proofs.Track.Sectors.{Distinct, numbersOf, numbers-distinct}
-use Rattle.format.proofs.Find.SpanCandidates.{candidatesOf, read-first}
+use Rattle.format.proofs.Find.SpanCandidates.{candidatesOf}
 use Rattle.format.proofs.Find.AcceptedCandidates.{candidates-accepted}
 use Rattle.format.proofs.Sector.BlocksJudged.{infoOf, testOf, part-right}
 use Rattle.format.proofs.Find.FindSound.{find-hands-out}

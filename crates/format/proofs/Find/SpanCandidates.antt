@@ -12,7 +12,7 @@ use Rattle.format.specs.Opening.{startsWith, plainOpening, opens}
 use Rattle.format.specs.Home.{Home, firstCountPlace}
 use Rattle.format.specs.Count.{Settled}
 use Rattle.format.specs.Span.{beforeOpening, laterSpans, joined, none, cleanSpan, cleanSpans}
-use Rattle.format.specs.Sector.{Sector, openingLength, isFirst, settle, sectorIn}
+use Rattle.format.specs.Sector.{Sector, openingLength, isFirst, settle}
 use Rattle.format.specs.Accept.{Placed, placedFrom}
 use Rattle.format.specs.Candidate.{Candidate, firstOpensAt, candidateAt, countPasses, standsAt, candidatesFrom}
 use Rattle.base.specs.Pick.{pick}
@@ -21,7 +21,7 @@ use Rattle.format.proofs.Spans.Shape.{Shape}
 use Rattle.format.proofs.Cells.Opening.{starts-with-append, opens-seam}
 use Rattle.format.proofs.Spans.Cutting.{opens-joined}
 use Rattle.format.proofs.Spans.SpanAgrees.{span-agrees}
-use Rattle.format.proofs.Sector.ReadSector.{ReadAs, read-inv, span-least}
+use Rattle.format.proofs.Sector.ReadSector.{ReadAs, read-inv, read-first, span-least}
 use Rattle.format.proofs.Sector.ReadsAs.{Reads, none-placed}
 
 -- The candidates that placed sectors are to be found as.
@@ -129,11 +129,6 @@ position-past (suc i) h p k a q = omega arith
 pub read-some : (m : Home) (i : ℕ) (x : Settled) (last : Bool) (g : List ℕ) (s : Sector) → ReadAs m i x last g s → 0 < length g
 read-some m i x true g s v = omega (arith, span-least m i x true g s v)
 read-some m i x false g s v = omega (arith, span-least m i x false g s v)
-
--- The sector in position 0 is read as sector 0, and no other.
-pub read-first : (m : Home) (i : ℕ) (x : Settled) (last : Bool) (g : List ℕ) (s : Sector) → ReadAs m i x last g s → s .first ≡ isFirst i
-unfolding sectorIn
-read-first m i x last g s v = ap (λ (k : Sector). k .first) (v .sector-is)
 
 -- At the front of a span whose count opens stands its candidate, if it passes, and the next one not before the next span.
 pub candidates-span : (i h p : ℕ) (g : List ℕ) (gs : List (List ℕ)) → openingLength (isFirst i) ≤ length g → (i ≡ 0 → startsWith plainOpening g ≡ true)

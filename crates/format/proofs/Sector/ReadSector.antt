@@ -100,6 +100,11 @@ read-inv h (suc i) x p last g s e =
       sector-is = b .1 .1 .1;
     }
 
+-- A sector that is read stands in the position of its span.
+pub read-first : (h : Home) (i : ℕ) (x : Settled) (last : Bool) (g : List ℕ) (s : Sector) → ReadAs h i x last g s → s .first ≡ isFirst i
+unfolding sectorIn
+read-first h i x last g s v = ap (λ (y : Sector). y .first) (v .sector-is)
+
 -- A span that passes every test is read, at any place.
 pub read-make : (h : Home) (i : ℕ) (x : Settled) (p : ℕ) (last : Bool) (g : List ℕ) (s : Sector) → ReadAs h i x last g s → readSpan h i x p last g ≡ good s
 unfolding readSpan judgeSector

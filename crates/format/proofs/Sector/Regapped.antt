@@ -16,7 +16,7 @@ use Rattle.format.specs.Block.{blockEnd, leastGap}
 use Rattle.format.specs.Gap.{takenFrom}
 use Rattle.format.specs.Blocks.{blocksAt}
 use Rattle.format.specs.Span.{cleanSpan}
-use Rattle.format.specs.Sector.{Sector, openingLength, isFirst, sectorIn, readSpan}
+use Rattle.format.specs.Sector.{Sector, openingLength, isFirst, readSpan}
 use Rattle.format.specs.Accept.{endOf}
 use Rattle.format.proofs.Cells.Opening.{unmarked-append, unmarked-take}
 use Rattle.format.proofs.Spans.Shape.{Shape}
@@ -95,11 +95,6 @@ clean-regapped i g z v c u = ap (cleanSpan i) (regapped-is i g z) ∙ clean-with
 -- It keeps the shape of a span in its position.
 pub shape-regapped : (i : ℕ) (g z : List ℕ) → Shape i (g ∷ []) → cleanSpan i g ≡ true → unmarked z ≡ true → Shape i (regapped i g z ∷ [])
 shape-regapped i g z v c u = rw (regapped-is i g z) (shape-with-rest i g (take (blockEnd (restOf i g)) (restOf i g) ++ z) v c (rest-unmarked i g z c u))
-
--- A sector that is read stands in the position of its span.
-pub read-first : (h : Home) (i : ℕ) (x : Settled) (p : ℕ) (last : Bool) (g : List ℕ) (s : Sector) → readSpan h i x p last g ≡ good s → s .first ≡ isFirst i
-unfolding sectorIn
-read-first h i x p last g s e = ap (λ (y : Sector). y .first) (read-inv h i x p last g s e .sector-is)
 
 -- Where the block of such a sector ends, if its span stands at place p.
 pub end-placed : (i p : ℕ) (g : List ℕ) (s : Sector) → s .first ≡ isFirst i → endOf (record { place = p; span = g; sector = s }) ≡ p + blockPlace i g

@@ -22,7 +22,8 @@ use Rattle.base.proofs.Tests.{cases, and-both, and-make}
 use Rattle.format.proofs.Spans.Shape.{Shape, FirstReaches}
 use Rattle.format.proofs.Spans.Cutting.{shape-cons, shape-head, shape-tail}
 use Rattle.format.proofs.Spans.Marks.{clean-marks}
-use Rattle.format.proofs.Sector.Regapped.{blockPlace, regapped, takenIn, place-in, length-regapped, read-regapped, place-regapped, clean-regapped, shape-regapped, read-first, end-placed}
+use Rattle.format.proofs.Sector.ReadSector.{read-inv, read-first}
+use Rattle.format.proofs.Sector.Regapped.{blockPlace, regapped, takenIn, place-in, length-regapped, read-regapped, place-regapped, clean-regapped, shape-regapped, end-placed}
 use Rattle.format.proofs.Sector.ReadsAs.{Reads, reads-read, length-reads, sectors-placed}
 use Rattle.format.proofs.Track.HomeLocal.{home-local}
 use Rattle.format.proofs.Track.AcceptedSpans.{Track, acceptedOf, spans-found, track-sectors, accepted-track, same-numbers}
@@ -147,7 +148,7 @@ ends-gaps h i x p (g ∷ gs) (z ∷ zs) [] e o = absurd e
 ends-gaps h i x p (g ∷ gs) (z ∷ zs) (s ∷ ss) e o =
     let inside : blockPlace i g ≤ length g = omega (arith, place-in i g h x p (none gs) s (e .0)) in
     let size = length-gap h i x p (none gs) g z s (e .0) (o .0) in
-    let f : s .first ≡ isFirst i = read-first h i x p (none gs) g s (e .0) in
+    let f : s .first ≡ isFirst i = read-first h i x (none gs) g s (read-inv h i x p (none gs) g s (e .0)) in
     let end : endOf (record { place = p; span = regapped i g z; sector = s }) ≡ endOf (record { place = p; span = g; sector = s }) + takenIn i g z =
     omega (arith, end-placed i p (regapped i g z) s f, end-placed i p g s f, place-regapped i g z inside) in
     rw size (ap₂ (λ (n : ℕ) (ns : List ℕ). n ∷ ns) end (ends-gaps h (suc i) (settle x s) (p + length g) gs zs ss (e .1) (o .2)))

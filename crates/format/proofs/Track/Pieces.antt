@@ -30,9 +30,9 @@ use Rattle.format.proofs.Spans.Shape.{Shape}
 use Rattle.format.proofs.Spans.Cutting.{shape-tail}
 use Rattle.format.proofs.Spans.SpanAgrees.{clean-behind}
 use Rattle.format.proofs.Sector.BlockEnd.{offset-is, data-in-end}
-use Rattle.format.proofs.Sector.ReadSector.{ReadAs, restOf, read-inv, read-length, Lengths}
+use Rattle.format.proofs.Sector.ReadSector.{ReadAs, restOf, read-inv, read-first, read-length, Lengths}
 use Rattle.format.proofs.Sector.ReadsAs.{Reads, none-placed}
-use Rattle.format.proofs.Sector.Regapped.{blockPlace, read-first, end-placed}
+use Rattle.format.proofs.Sector.Regapped.{blockPlace, end-placed}
 use Rattle.format.proofs.Track.AcceptedSpans.{accepted-track}
 use Rattle.format.proofs.Track.Pairs.{accepted-pair, lent-length}
 use Rattle.format.proofs.Track.ListAccepted.{list-records}
@@ -169,7 +169,7 @@ reads-follow head h i x (g ∷ gs) (s ∷ ss) v k e =
     let p : ℕ = length head in
     let rest : List ℕ = joined gs in
     let a = read-inv h i x p (none gs) g s (e .0) in
-    let f : s .first ≡ isFirst i = read-first h i x p (none gs) g s (e .0) in
+    let f : s .first ≡ isFirst i = read-first h i x (none gs) g s a in
     let n : length (head ++ g) ≡ p + length g = length-append head g in
     let later : Following ((head ++ g) ++ rest) false (length (head ++ g)) (map listed (placedFrom (length (head ++ g)) gs ss)) =
     reads-follow (head ++ g) h (suc i) (settle x s) gs ss (shape-tail i g gs v) (clean .1) (subst (λ (q : ℕ). Reads h (suc i) (settle x s) q gs ss) (sym n) (e .1)) in (
