@@ -1,6 +1,6 @@
 //! Bits altered in the information and check bytes of home, counts, keys and data blocks: each change that is tried within sixteen successive bits is refused by the check, and two bits sixteen apart pass it.
 //!
-//! Every altered track is judged by the proved library and by the reference.
+//! Every altered track is judged by the proved library and by the reference; where every burst of up to sixteen bits is tried, by the library alone.
 
 mod common;
 
@@ -136,6 +136,44 @@ fn bursts_on_the_worked_track() {
         (Kind::Data, 21_527 + 196_631),
     ];
     finish("bursts on the worked track", tried, wanted);
+}
+
+/// Demands Accept's refusal after every burst of up to sixteen bits, at each start, in the first field of this kind on the worked track; so many there are.
+fn every_burst_on(kind: Kind, length: usize, wanted: usize) {
+    let (track, patterns) = (worked(), patterns(16, 0));
+    assert_eq!(patterns.len(), 1 << 15);
+    let mut fields = fields_of(&track).into_iter();
+    let field = fields
+        .find(|field| field.kind == kind)
+        .expect("such a field");
+    assert_eq!(field.length, length);
+    let refusal = field.refusal();
+    let tried = each_alone(&track, changes(field, &patterns), |altered, change| {
+        let judged = station::accept(altered.0, altered.1);
+        assert_eq!(judged, refusal, "{change:?}");
+    });
+    let tried = Tried::from([(kind, tried)]);
+    finish("every burst of up to sixteen bits", tried, [(kind, wanted)]);
+}
+
+#[test]
+fn every_burst_on_home() {
+    every_burst_on(Kind::Home, 5, 1_376_255);
+}
+
+#[test]
+fn every_burst_on_a_count() {
+    every_burst_on(Kind::Count, 9, 2_424_831);
+}
+
+#[test]
+fn every_burst_on_a_key() {
+    every_burst_on(Kind::Key, 3, 851_967);
+}
+
+#[test]
+fn every_burst_on_a_data_block() {
+    every_burst_on(Kind::Data, 8, 2_162_687);
 }
 
 /// Keys and data blocks of odd and even lengths from one byte on.
