@@ -28,10 +28,9 @@ use Rattle.format.proofs.Bursts.SectorBurst.{BlockRead, unclosed-accept
 
 -- The track t with marks m, accepted as a, and u after a burst in one of its fields.
 module _ (t m u : List ℕ) (a : Accepted) (e : accept t m ≡ good a) where
-  -- In home: it is refused by 3.
-  accept-home : BurstIn a ofHome t u → accept u m ≡ refused (checkAnswer a ofHome)
-  unfolding accept acceptCells
-  accept-home b =
+  -- The cells of t and of u by the altered bytes of home.
+  home-parts : BurstIn a ofHome t u → CellParts (infoPlace a ofHome) 7 t u m
+  home-parts b =
       let pair = accepted-pair t m a e in
       let v = accepted-track (cells t m) a (pair .1) in
       let q : ℕ = infoPlace a ofHome in
@@ -41,11 +40,18 @@ module _ (t m u : List ℕ) (a : Accepted) (e : accept t m ≡ good a) where
       let size : length head ≡ firstCountPlace (a .home .place) = v .1 .head-length in
       let long : q + 7 ≤ length t = omega (arith, lent-length t m (pair .0) .0, ap length whole, length-append head (joined gs)) in
       let plain : unmarked (take 7 (drop q (cells t m))) ≡ true = ap (λ (l : List ℕ). unmarked (take 7 (drop q l))) (sym whole) ∙ part-unmarked [] head (joined gs) q q 7 (omega arith) (omega arith) (v .1 .head-unmarked) in
-      let c : CellParts q 7 t u m = cell-parts q 7 t u m (pair .0) long plain (b .same) (burst-length 16 (checkedOn a ofHome t) (checkedOn a ofHome u) (b .burst)) in
-      let judged : judgeHome (c .front ++ (take 7 (drop q t) ++ c .back)) ≡ good (a .home) = ap judgeHome (sym (c .old-is)) ∙ accepted-by (cells t m) a (pair .1) .home-judged in
+      cell-parts q 7 t u m (pair .0) long plain (b .same) (burst-length 16 (checkedOn a ofHome t) (checkedOn a ofHome u) (b .burst))
+
+  -- In home: it is refused by 3.
+  accept-home : BurstIn a ofHome t u → accept u m ≡ refused (checkAnswer a ofHome)
+  unfolding accept acceptCells
+  accept-home b =
+      let c : CellParts (infoPlace a ofHome) 7 t u m = home-parts b in
+      let ys : List ℕ = checkedOn a ofHome t in
+      let zs : List ℕ = checkedOn a ofHome u in
+      let judged : judgeHome (c .front ++ (ys ++ c .back)) ≡ good (a .home) = ap judgeHome (sym (c .old-is)) ∙ accepted-by (cells t m) a (accepted-pair t m a e .1) .home-judged in
       let wrong : judgeHome (cells u m) ≡ refused (checkAnswer a ofHome) =
-      ap judgeHome (c .new-is)
-      ∙ home-burst (a .home) (c .front) (take 7 (drop q t)) (take 7 (drop q u)) (c .back) (c .front-size) (c .old-size) (c .new-size) (c .old-unmarked) (b .bytes) judged (b .burst) in
+      ap judgeHome (c .new-is) ∙ home-burst (a .home) (c .front) ys zs (c .back) (c .front-size) (c .old-size) (c .new-size) (c .old-unmarked) (b .bytes) judged (b .burst) in
       rw (c .lent, wrong)
 
   -- The count of the sector y, as altered.

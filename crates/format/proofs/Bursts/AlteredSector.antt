@@ -17,7 +17,7 @@ use Rattle.format.specs.Accept.{Placed, placedFrom, Accepted, spansOf, a
 use Rattle.format.specs.Burst.{placedRest, placedStart, SameBut}
 use Rattle.format.proofs.Sector.ReadSector.{restOf}
 use Rattle.format.proofs.Spans.SpanAgrees.{clean-behind}
-use Rattle.format.proofs.Track.AcceptedSpans.{Track, accepted-track}
+use Rattle.format.proofs.Track.AcceptedSpans.{Track, acceptedOf, accepted-track}
 use Rattle.format.proofs.Track.Pairs.{accepted-pair, lent-length}
 use Rattle.format.proofs.Track.Sectors.{Distinct, numbersOf, numbers-distinct}
 use Rattle.format.proofs.Bursts.AlteredSpan.{StandsIn, stands-in, alteredSpans}
@@ -65,43 +65,93 @@ module _ (t m u : List ℕ) (a : Accepted) (e : accept t m ≡ good a) (y : Plac
   abbrev z : List ℕ
   z = putIn off n (take n (drop q u)) r
 
+  -- The cells before sector 0's count,
+  abbrev head : List ℕ
+  head = take p (cells t m)
+
+  -- and the spans behind them.
+  abbrev gs : List (List ℕ)
+  gs = spansOf h (cells t m)
+
+  -- Let ss be the sectors as which these are read.
+  module _ (ss : List Sector) (track : Track head h gs ss) (whole : head ++ joined gs ≡ cells t m) (is : acceptedOf h gs ss ≡ a) where
+    -- One of them is y,
+    member : Member y (placedFrom p gs ss)
+    member = subst (λ (b : Accepted). Member y (b .sectors)) (sym is) k
+
+    -- and its span stands among theirs.
+    stands : StandsIn y z h 0 unsettled p gs (alteredSpans y z 0 p gs ss member)
+    stands = stands-in y z h 0 unsettled p gs ss member (track .reads) (track .clean)
+
+    -- What stands before r,
+    abbrev xs : List ℕ
+    xs = head ++ stands .front
+
+    -- and behind it.
+    abbrev ys : List ℕ
+    ys = stands .back
+
+    -- The altered bytes stand from off on in r,
+    altered-from : q ≡ length xs + off
+    altered-from = omega (arith, length-append head (stands .front), track .head-length, stands .place-is)
+
+    -- and the cells of t are in three parts.
+    cells-old : cells t m ≡ xs ++ (r ++ ys)
+    cells-old = sym whole ∙ ap (λ (l : List ℕ). head ++ l) (stands .before-is) ∙ sym (append-assoc head (stands .front) (r ++ ys))
+
+    -- r is the rest of the span in its position,
+    rest-in-position : r ≡ restOf (stands .position) (y .span)
+    rest-in-position = ap (λ (b : Bool). drop (openingLength b) (y .span)) (stands .first-is)
+
+    -- has no mark,
+    rest-unmarked : unmarked r ≡ true
+    rest-unmarked = ap unmarked rest-in-position ∙ clean-behind (stands .position) (y .span) (stands .clean)
+
+    -- and the altered bytes lie in it.
+    altered-inside : off + n ≤ length r
+    altered-inside = fit (stands .last) (ap (blocksFit (stands .last)) rest-in-position ∙ stands .read .blocks-fit)
+
+    -- The cells of t and of u by these bytes.
+    parts : CellParts q n t u m
+    parts =
+        let lent = accepted-pair t m a e .0 in
+        let long : q + n ≤ length t = omega (arith, altered-from, altered-inside, lent-length t m lent .0, ap length cells-old, length-append xs (r ++ ys), length-append r ys) in
+        cell-parts q n t u m lent long (ap (λ (l : List ℕ). unmarked (take n (drop q l))) cells-old ∙ part-unmarked xs r ys q off n altered-from altered-inside rest-unmarked) same size
+
+    -- The cells of t in both ways:
+    parts-same : xs ++ (r ++ ys) ≡ parts .front ++ (take n (drop q t) ++ parts .back)
+    parts-same = sym cells-old ∙ parts .old-is
+
+    -- what stands before the altered bytes is as long as xs and off.
+    front-long : length (parts .front) ≡ length xs + off
+    front-long = parts .front-size ∙ altered-from
+
+    -- The cells of u are those of t with z in the place of r.
+    cells-new : cells u m ≡ xs ++ (z ++ ys)
+    cells-new = parts .new-is ∙ whole-put-is xs r ys (parts .front) (take n (drop q t)) (parts .back) off n parts-same front-long (parts .old-size) altered-inside (take n (drop q u))
+
+    -- So the sector y is altered on u.
+    altered-of : AlteredSector t m u a y q off n
+    altered-of =
+        record {
+          head = head;
+          spans = gs;
+          sectors = ss;
+          track = track;
+          member = member;
+          distinct = subst (λ (b : Accepted). Distinct (numbersOf (b .sectors))) (sym is) (numbers-distinct (cells t m) a (accepted-pair t m a e .1));
+          rest = z;
+          rest-is = refl;
+          rest-was = rest-put-is xs r ys (parts .front) (take n (drop q t)) (parts .back) off n parts-same front-long (parts .old-size) altered-inside;
+          old-size = parts .old-size;
+          new-size = parts .new-size;
+          unmarked-rest = unmarked-put off n (take n (drop q u)) r bytes rest-unmarked;
+          length-rest = length-put off n (take n (drop q u)) r (parts .new-size) altered-inside;
+          lent = parts .lent;
+          cells-are = cells-new ∙ append-assoc head (stands .front) (z ++ ys) ∙ ap (λ (l : List ℕ). head ++ l) (sym (stands .after-is));
+          stands = stands;
+        }
+
   -- The sector y on u, as altered.
   pub altered-sector : AlteredSector t m u a y q off n
-  altered-sector =
-      let pair = accepted-pair t m a e in
-      let v = accepted-track (cells t m) a (pair .1) in
-      let head : List ℕ = take p (cells t m) in
-      let gs : List (List ℕ) = spansOf h (cells t m) in
-      let ss : List Sector = v .0 in
-      let track : Track head h gs ss = v .1 in
-      let member : Member y (placedFrom p gs ss) = subst (λ (b : Accepted). Member y (b .sectors)) (sym (v .3)) k in
-      let s : StandsIn y z h 0 unsettled p gs (alteredSpans y z 0 p gs ss member) = stands-in y z h 0 unsettled p gs ss member (track .reads) (track .clean) in
-      let xs : List ℕ = head ++ s .front in
-      let from : q ≡ length xs + off = omega (arith, length-append head (s .front), track .head-length, s .place-is) in
-      let old : cells t m ≡ xs ++ (r ++ s .back) = sym (v .2) ∙ ap (λ (l : List ℕ). head ++ l) (s .before-is) ∙ sym (append-assoc head (s .front) (r ++ s .back)) in
-      let here : placedRest y ≡ restOf (s .position) (y .span) = ap (λ (b : Bool). drop (openingLength b) (y .span)) (s .first-is) in
-      let plain : unmarked r ≡ true = ap unmarked here ∙ clean-behind (s .position) (y .span) (s .clean) in
-      let w : off + n ≤ length r = fit (s .last) (ap (blocksFit (s .last)) here ∙ s .read .blocks-fit) in
-      let long : q + n ≤ length t = omega (arith, lent-length t m (pair .0) .0, ap length old, length-append xs (r ++ s .back), length-append r (s .back)) in
-      let c : CellParts q n t u m = cell-parts q n t u m (pair .0) long (ap (λ (l : List ℕ). unmarked (take n (drop q l))) old ∙ part-unmarked xs r (s .back) q off n from w plain) same size in
-      let both : xs ++ (r ++ s .back) ≡ c .front ++ (take n (drop q t) ++ c .back) = sym old ∙ c .old-is in
-      let place : length (c .front) ≡ length xs + off = c .front-size ∙ from in
-      let put : cells u m ≡ xs ++ (z ++ s .back) = c .new-is ∙ whole-put-is xs r (s .back) (c .front) (take n (drop q t)) (c .back) off n both place (c .old-size) w (take n (drop q u)) in
-      record {
-        head = head;
-        spans = gs;
-        sectors = ss;
-        track = track;
-        member = member;
-        distinct = subst (λ (b : Accepted). Distinct (numbersOf (b .sectors))) (sym (v .3)) (numbers-distinct (cells t m) a (pair .1));
-        rest = z;
-        rest-is = refl;
-        rest-was = rest-put-is xs r (s .back) (c .front) (take n (drop q t)) (c .back) off n both place (c .old-size) w;
-        old-size = c .old-size;
-        new-size = c .new-size;
-        unmarked-rest = unmarked-put off n (take n (drop q u)) r bytes plain;
-        length-rest = length-put off n (take n (drop q u)) r (c .new-size) w;
-        lent = c .lent;
-        cells-are = put ∙ append-assoc head (s .front) (z ++ s .back) ∙ ap (λ (l : List ℕ). head ++ l) (sym (s .after-is));
-        stands = s;
-      }
+  altered-sector = let v = accepted-track (cells t m) a (accepted-pair t m a e .1) in altered-of (v .0) (v .1) (v .2) (v .3)
