@@ -29,7 +29,7 @@ use Rattle.format.proofs.Bursts.SectorBurst.{BlockRead, unclosed-accept
 -- The track t with marks m, accepted as a, and u after a burst in one of its fields.
 module _ (t m u : List ℕ) (a : Accepted) (e : accept t m ≡ good a) where
   -- The cells of t and of u by the altered bytes of home.
-  home-parts : BurstIn a ofHome t u → CellParts (infoPlace a ofHome) 7 t u m
+  pub home-parts : BurstIn a ofHome t u → CellParts (infoPlace a ofHome) 7 t u m
   home-parts b =
       let pair = accepted-pair t m a e in
       let v = accepted-track (cells t m) a (pair .1) in
