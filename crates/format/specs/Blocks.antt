@@ -5,10 +5,11 @@ use mathlib.Core.List.{List}
 use lib.Dec.{eqb}
 use Rattle.base.specs.Pick.{pick}
 use Rattle.format.specs.Layout.{plainLength}
-use Rattle.format.specs.Answer.{spanTooShort, keyWrong, dataWrong}
+use Rattle.format.specs.Fault.{Fault, Tested}
+use Rattle.format.specs.Answer.{Answer, spanTooShort, keyWrong, dataWrong}
 use Rattle.format.specs.Judged.{Judged, good, require, requireSound}
 use Rattle.format.specs.Count.{keyLength, dataLength}
-use Rattle.format.specs.Block.{keyOffset, dataOffset, blockEnd, blocksFit, testKey, testData}
+use Rattle.format.specs.Block.{keyOffset, dataOffset, blockEnd, blocksFit, testKey, testData, keyInfo, dataInfo}
 
 -- A part of the lent track.
 pub record Part : Type 0 where
@@ -22,6 +23,31 @@ partAt p n = record { start = pick (eqb n 0) 0 p; size = n }
 -- Which part of a sector is asked for.
 pub data Wanted : Type 0 where
   theKey theData : Wanted
+
+-- Where the key or the data block opens behind the count's opening, of which r is what follows.
+abbrev pub offsetOf : Wanted → List ℕ → ℕ
+offsetOf theKey r = keyOffset
+offsetOf theData r = dataOffset r
+
+-- Its length by the count.
+abbrev pub lengthOf : Wanted → List ℕ → ℕ
+lengthOf theKey r = keyLength r
+lengthOf theData r = dataLength r
+
+-- Its information.
+abbrev pub infoOf : Wanted → List ℕ → List ℕ
+infoOf theKey r = keyInfo r
+infoOf theData r = dataInfo r
+
+-- Its test.
+abbrev pub testOf : Wanted → List ℕ → Tested
+testOf theKey r = testKey r
+testOf theData r = testData r
+
+-- The answer that refuses it at place p, where f is at fault.
+abbrev pub wrongAt : Wanted → Fault → ℕ → Answer
+wrongAt theKey f p = keyWrong f p
+wrongAt theData f p = dataWrong f p
 
 -- The part that the information of the key or of the data takes in r, which follows a count's opening from place q on.
 abbrev pub partIn : Wanted → ℕ → List ℕ → Part

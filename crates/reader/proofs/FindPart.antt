@@ -15,8 +15,8 @@ use Rattle.format.specs.Home.{findHome}
 use Rattle.format.specs.Count.{countNumber}
 use Rattle.format.specs.Candidate.{Candidate, candidates}
 use Rattle.format.specs.Find.{carrying, only, candidatePart, findCells, find}
-use Rattle.format.specs.Blocks.{Wanted, Part, partAt, blocksAt, judgeFit, wantedPart, partIn}
-use Rattle.format.proofs.Sector.BlocksJudged.{offsetOf, lengthOf, block-fits, fit-good, fit-zero, part-zero}
+use Rattle.format.specs.Blocks.{Wanted, Part, partAt, blocksAt, judgeFit, wantedPart, partIn, offsetOf, lengthOf}
+use Rattle.format.proofs.Sector.BlocksJudged.{block-fits, fit-good, fit-zero, part-zero}
 use Rattle.reader.specs.Finding.{asCandidate, asPart}
 use Rattle.reader.specs.declared.candidate.Candidate.{Candidate as CandidateCode}
 use Rattle.reader.specs.declared.finding.Part.{Part as PartCode}

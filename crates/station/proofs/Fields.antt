@@ -20,14 +20,14 @@ use Rattle.format.specs.Sector.{openingLength, judgeCount}
 use Rattle.format.specs.Accept.{Accepted, accept}
 use Rattle.format.specs.Candidate.{Candidate, firstOpensAt, candidateAt, standsAt, candidatesFrom, candidates}
 use Rattle.format.specs.Find.{carrying, only, candidatePart, findCells, find}
-use Rattle.format.specs.Blocks.{Wanted, Part, partAt, wantedPart, blocksAt, judgeFit, partIn}
+use Rattle.format.specs.Blocks.{Wanted, Part, partAt, wantedPart, blocksAt, judgeFit, partIn, offsetOf, lengthOf, testOf, wrongAt}
 use Rattle.format.specs.Walk.{Visited, visited, nextFrom, step}
 use Rattle.format.specs.PairFind.{Paired, fromFirstCount, judgeFirstCount, judgeFirst, pairAgrees, findOnSecond, findByFlag, pairFind}
 use Rattle.base.proofs.Tests.{cases}
 use Rattle.format.proofs.Cells.Opening.{unmarked-at}
 use Rattle.format.proofs.Track.HomeLocal.{home-window}
 use Rattle.format.proofs.Find.CandidateBytes.{after-front}
-use Rattle.format.proofs.Sector.BlocksJudged.{block-fits, offsetOf, lengthOf, testOf, wrongAt, wrong-row, part-judged, fit-good, part-in-is}
+use Rattle.format.proofs.Sector.BlocksJudged.{block-fits, wrong-row, part-judged, fit-good, part-in-is}
 use Rattle.station.proofs.Places.{Row, Within, within-then, within-require, cells-few, home-within, count-within, accept-within, fit-within}
 
 -- A candidate that lies within 4,002 cells and has bytes for its fields.

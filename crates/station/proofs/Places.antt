@@ -20,7 +20,7 @@ use Rattle.format.specs.Span.{joined, none, spans}
 use Rattle.format.specs.Sector.{Sector, openingLength, settle, judgeCount, readBlocks, judgeSector, readSpan}
 use Rattle.format.specs.Accept.{Placed, Accepted, judgeMarks, readSpans, placedFrom, fromNumber, among, judgeNumbers, spansOf, firstCountEnd, judgeBehind, acceptCells, accept}
 use Rattle.format.specs.Listing.{mostSectors, list}
-use Rattle.format.specs.Blocks.{theKey, theData, Wanted, blocksAt, wantedPart, judgeFit, partIn}
+use Rattle.format.specs.Blocks.{theKey, theData, Wanted, blocksAt, wantedPart, judgeFit, partIn, offsetOf, testOf, wrongAt}
 use Rattle.format.specs.GapRule.{GapRule, gapBy}
 use Rattle.format.specs.Written.{writtenBehind, asPair}
 use Rattle.format.specs.Blank.{blank}
@@ -31,7 +31,7 @@ use Rattle.format.proofs.Track.HomeLocal.{found-window, home-window}
 use Rattle.format.proofs.Spans.StrayMark.{marks-stray}
 use Rattle.format.proofs.Spans.Cutting.{joined-spans}
 use Rattle.format.proofs.Track.Pairs.{lent-length}
-use Rattle.format.proofs.Sector.BlocksJudged.{block-fits, offsetOf, testOf, wrongAt, wrong-row, part-judged, fit-good}
+use Rattle.format.proofs.Sector.BlocksJudged.{block-fits, wrong-row, part-judged, fit-good}
 use Rattle.format.proofs.Correct.CorrectPair.{place-in-track}
 
 -- An answer of the table whose place is 4,002 at most.

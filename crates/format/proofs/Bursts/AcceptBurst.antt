@@ -13,11 +13,11 @@ use Rattle.format.specs.Home.{judgeHome, firstCountPlace}
 use Rattle.format.specs.Fault.{checkWrong}
 use Rattle.format.specs.Count.{keyLength, dataLength}
 use Rattle.format.specs.Block.{keyOffset, dataOffset}
-use Rattle.format.specs.Blocks.{Wanted, theKey, theData}
+use Rattle.format.specs.Blocks.{Wanted, theKey, theData, offsetOf, lengthOf, wrongAt}
 use Rattle.format.specs.Span.{joined}
 use Rattle.format.specs.Accept.{Placed, Accepted, spansOf, acceptCells, accept}
 use Rattle.format.specs.Burst.{placedRest, placedStart, Field, ofHome, ofCount, ofKey, ofData, blockField, HasField, infoPlace, checkAnswer, checkedOn, BurstIn}
-use Rattle.format.proofs.Sector.BlocksJudged.{offsetOf, lengthOf, wrongAt, block-fits}
+use Rattle.format.proofs.Sector.BlocksJudged.{block-fits}
 use Rattle.format.proofs.Sector.ReadsAs.{accepted-by}
 use Rattle.format.proofs.Track.AcceptedSpans.{accepted-track}
 use Rattle.format.proofs.Track.Pairs.{accepted-pair, lent-length}

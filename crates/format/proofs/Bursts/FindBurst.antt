@@ -12,13 +12,12 @@ use Rattle.format.specs.Judged.{Judged, good, refused}
 use Rattle.format.specs.Lent.{cells, unmarked}
 use Rattle.format.specs.Home.{findHome, firstCountPlace}
 use Rattle.format.specs.Count.{unsettled, countNumber}
-use Rattle.format.specs.Blocks.{Wanted, Part, theKey, theData}
+use Rattle.format.specs.Blocks.{Wanted, Part, theKey, theData, offsetOf, wrongAt, infoOf}
 use Rattle.format.specs.Span.{joined}
 use Rattle.format.specs.Accept.{Placed, Accepted, spansOf, accept}
 use Rattle.format.specs.Burst.{placedRest, placedStart, ofHome, ofCount, ofKey, ofData, blockField, HasField, infoPlace, checkAnswer, checkedOn, BurstIn}
 use Rattle.format.specs.Candidate.{Candidate, countPasses, candidatesFrom, candidates}
 use Rattle.format.specs.Find.{partOf, carrying, only, findCells, find}
-use Rattle.format.proofs.Sector.BlocksJudged.{offsetOf, wrongAt, infoOf}
 use Rattle.format.proofs.Sector.FaultBytes.{tested-fault}
 use Rattle.format.proofs.Sector.ReadsAs.{accepted-by}
 use Rattle.format.proofs.Track.HomeLocal.{found-local}

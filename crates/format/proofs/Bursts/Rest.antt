@@ -17,10 +17,10 @@ use Rattle.format.specs.Address.{addressIn}
 use Rattle.format.specs.Home.{Home}
 use Rattle.format.specs.Count.{Settled, countNumber, keyLength, dataLength, countClosed, countFieldsRight}
 use Rattle.format.specs.Block.{dataOffset, emptySize, blockEnd, blocksFit, testBlock, testKey}
-use Rattle.format.specs.Blocks.{Wanted, theKey, theData}
+use Rattle.format.specs.Blocks.{Wanted, theKey, theData, offsetOf, lengthOf, testOf}
 use Rattle.format.proofs.Base.Judged.{demand-sound}
 use Rattle.format.proofs.Cells.Local.{starts-local, closed-local, block-local}
-use Rattle.format.proofs.Sector.BlocksJudged.{offsetOf, lengthOf, testOf, test-block}
+use Rattle.format.proofs.Sector.BlocksJudged.{test-block}
 use Rattle.format.proofs.Sector.BlockEnd.{key-in-offset, key-block-in-offset}
 use Rattle.format.proofs.Bursts.Field.{burst-unchecked}
 

@@ -17,12 +17,12 @@ use Rattle.format.specs.Fault.{sound, faulty, checkWrong}
 use Rattle.format.specs.Home.{Home, judgeHome, firstCountPlace}
 use Rattle.format.specs.Count.{unsettled, countNumber, countFits, countClosed, countFieldsRight}
 use Rattle.format.specs.Block.{blocksFit, testKey, testData}
-use Rattle.format.specs.Blocks.{Wanted, theKey, theData}
+use Rattle.format.specs.Blocks.{Wanted, theKey, theData, offsetOf, lengthOf, testOf, wrongAt}
 use Rattle.format.specs.Sector.{openingLength, isFirst}
 use Rattle.format.specs.Accept.{Placed, Accepted, judgeMarks, spansOf, firstCountEnd, accept}
 use Rattle.format.specs.Burst.{placedRest, placedStart}
 use Rattle.format.proofs.Sector.Sizes.{gap-least, rest-least}
-use Rattle.format.proofs.Sector.BlocksJudged.{offsetOf, lengthOf, testOf, wrongAt, block-fits}
+use Rattle.format.proofs.Sector.BlocksJudged.{block-fits}
 use Rattle.format.proofs.Sector.FaultBytes.{tested-fault}
 use Rattle.format.proofs.Sector.ReadSector.{restOf, read-unclosed, span-least, count-make}
 use Rattle.format.proofs.Sector.OtherRest.{withRest, rest-with-rest, opened-with-rest}

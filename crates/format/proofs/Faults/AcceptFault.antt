@@ -15,7 +15,7 @@ use Rattle.format.specs.Opening.{startsWith, plainOpening}
 use Rattle.format.specs.Home.{Home, judgeHome, firstCountPlace}
 use Rattle.format.specs.Count.{Settled, unsettled}
 use Rattle.format.specs.Block.{blocksFit, testKey}
-use Rattle.format.specs.Blocks.{Wanted, theKey, theData, blocksAt, wantedPart, judgeFit}
+use Rattle.format.specs.Blocks.{Wanted, theKey, theData, blocksAt, wantedPart, judgeFit, offsetOf, wrongAt}
 use Rattle.format.specs.BlockFault.{FaultIn, refusesBlock}
 use Rattle.format.specs.Span.{none, joined, cleanSpan, cleanSpans}
 use Rattle.format.specs.Sector.{Sector, openingLength, isFirst, sectorIn, settle, judgeCount, readBlocks, judgeSector, readSpan}
@@ -25,7 +25,7 @@ use Rattle.format.proofs.Base.Judged.{good-refused, then-refused, requi
 use Rattle.format.proofs.Spans.Cutting.{joined-spans}
 use Rattle.format.proofs.Spans.Marks.{marks-clean}
 use Rattle.format.proofs.Spans.SpanAgrees.{clean-behind}
-use Rattle.format.proofs.Sector.BlocksJudged.{offsetOf, wrongAt, block-fits, fit-good, part-good}
+use Rattle.format.proofs.Sector.BlocksJudged.{block-fits, fit-good, part-good}
 use Rattle.format.proofs.Sector.FaultBytes.{FaultAt, fault-at, fault-tested, part-refused}
 use Rattle.format.proofs.Sector.ReadSector.{restOf}
 use Rattle.format.proofs.Track.Pairs.{drop-cells}

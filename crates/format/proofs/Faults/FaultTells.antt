@@ -9,11 +9,10 @@ use Rattle.format.specs.Answer.{Answer}
 use Rattle.format.specs.Fault.{Fault, openingWrong, checkWrong, closingWrong, faultNumber}
 use Rattle.format.specs.Count.{keyLength, dataLength}
 use Rattle.format.specs.Judged.{refused}
-use Rattle.format.specs.Blocks.{Wanted, theKey, theData}
+use Rattle.format.specs.Blocks.{Wanted, theKey, theData, lengthOf, wrongAt}
 use Rattle.format.specs.BlockFault.{FaultOf, SaysFault, refusesBlock}
 use Rattle.format.specs.Find.{find}
 use Rattle.format.specs.Accept.{accept}
-use Rattle.format.proofs.Sector.BlocksJudged.{lengthOf, wrongAt}
 use Rattle.format.proofs.Sector.FaultBytes.{FaultAt, fault-same}
 use Rattle.format.proofs.Find.FindParts.{restPlace}
 use Rattle.format.proofs.Faults.FindFault.{find-faulty, faulty-bytes}

@@ -12,11 +12,11 @@ use Rattle.format.specs.Block.{blocksFit}
 use Rattle.format.specs.BlockFault.{FaultIn, refusesBlock}
 use Rattle.format.specs.Candidate.{Candidate, candidates}
 use Rattle.format.specs.Find.{carrying, only, candidatePart, findCells, find}
-use Rattle.format.specs.Blocks.{Wanted, judgeFit}
+use Rattle.format.specs.Blocks.{Wanted, judgeFit, offsetOf, wrongAt}
 use Rattle.base.specs.Lists.{Member}
 use Rattle.base.proofs.Tests.{false-true}
 use Rattle.format.proofs.Base.Judged.{then-refused, require-refused}
-use Rattle.format.proofs.Sector.BlocksJudged.{offsetOf, wrongAt, fit-good}
+use Rattle.format.proofs.Sector.BlocksJudged.{fit-good}
 use Rattle.format.proofs.Sector.FaultBytes.{FaultAt, fault-at, part-refused, part-faulty}
 use Rattle.format.proofs.Find.CandidateBytes.{rest-in-track}
 use Rattle.format.proofs.Find.FindParts.{restPlace, only-is, carrying-member}

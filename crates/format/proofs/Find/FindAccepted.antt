@@ -20,7 +20,7 @@ use Rattle.format.specs.Accept.{Placed, placedFrom, among, Accepted, spa
 use Rattle.format.specs.Candidate.{Candidate, candidates}
 use Rattle.format.specs.Burst.{placedRest}
 use Rattle.format.specs.Find.{partOf, carrying, only, candidatePart, findCells, find, contentOf}
-use Rattle.format.specs.Blocks.{Wanted, theKey, theData, Part, judgeFit, partIn}
+use Rattle.format.specs.Blocks.{Wanted, theKey, theData, Part, judgeFit, partIn, infoOf, testOf}
 use Rattle.base.proofs.Tests.{cases, false-true}
 use Rattle.base.specs.Lists.{Member}
 use Rattle.format.proofs.Sector.ReadSector.{ReadAs, restOf, read-inv, read-first}
@@ -29,7 +29,7 @@ use Rattle.format.proofs.Track.Pairs.{accepted-pair}
 use Rattle.format.proofs.Track.Sectors.{Distinct, numbersOf, numbers-distinct}
 use Rattle.format.proofs.Find.SpanCandidates.{candidatesOf}
 use Rattle.format.proofs.Find.AcceptedCandidates.{candidates-accepted}
-use Rattle.format.proofs.Sector.BlocksJudged.{infoOf, testOf, part-right}
+use Rattle.format.proofs.Sector.BlocksJudged.{part-right}
 use Rattle.format.proofs.Find.FindSound.{find-hands-out}
 use Rattle.format.proofs.Find.FindParts.{restPlace}
 

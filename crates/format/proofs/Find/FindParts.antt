@@ -15,11 +15,11 @@ use Rattle.format.specs.Block.{testBlock, blockInfo, keyInfo, dataInfo}
 use Rattle.format.specs.Sector.{openingLength}
 use Rattle.format.specs.Candidate.{Candidate}
 use Rattle.format.specs.Find.{carrying, only}
-use Rattle.format.specs.Blocks.{Wanted, theKey, theData, Part, partAt, wantedPart, blocksAt}
+use Rattle.format.specs.Blocks.{Wanted, theKey, theData, Part, partAt, wantedPart, blocksAt, offsetOf, lengthOf, infoOf}
 use Rattle.format.proofs.Base.Judged.{good-inj, refused-good}
 use Rattle.base.proofs.Tests.{cases}
 use Rattle.base.specs.Lists.{Member}
-use Rattle.format.proofs.Sector.BlocksJudged.{offsetOf, lengthOf, infoOf, part-good, test-block, part-in-is}
+use Rattle.format.proofs.Sector.BlocksJudged.{part-good, test-block, part-in-is}
 
 -- Where the bytes of a count begin, behind its opening.
 abbrev pub restPlace : Candidate → ℕ

@@ -17,14 +17,14 @@ use Rattle.format.specs.Count.{countNumber}
 use Rattle.format.specs.Block.{blocksFit}
 use Rattle.format.specs.Candidate.{Candidate, candidates}
 use Rattle.format.specs.Find.{partOf, carrying, only, candidatePart, findCells, find}
-use Rattle.format.specs.Blocks.{Wanted, Part, judgeFit}
+use Rattle.format.specs.Blocks.{Wanted, Part, judgeFit, offsetOf, lengthOf, infoOf}
 use Rattle.format.proofs.Base.Judged.{then-good, require-good}
 use Rattle.base.proofs.Tests.{cases, false-true, and-both, and-make}
 use Rattle.base.specs.Lists.{Member}
 use Rattle.format.proofs.Cells.Field.{block-parts}
 use Rattle.format.proofs.Find.CandidateBytes.{rest-in-track}
 use Rattle.format.proofs.Find.FindParts.{restPlace, info-is, Right, only-is, carrying-member, found-right}
-use Rattle.format.proofs.Sector.BlocksJudged.{offsetOf, lengthOf, infoOf, block-fits, fit-good}
+use Rattle.format.proofs.Sector.BlocksJudged.{block-fits, fit-good}
 
 -- The part, with its check and closing byte, lies in the span of the count x.
 abbrev pub InSpan : Candidate → Part → Type 0

@@ -11,35 +11,10 @@ use Rattle.format.specs.Fault.{Fault, Tested, sound, faulty}
 use Rattle.format.specs.Judged.{good, refused, requireSound, answerOf}
 use Rattle.format.specs.Count.{keyLength, dataLength}
 use Rattle.format.specs.Block.{keyOffset, dataOffset, blocksFit, testBlock, testKey, testData, keyInfo, dataInfo}
-use Rattle.format.specs.Blocks.{Wanted, theKey, theData, Part, partAt, partIn, blocksAt, wantedPart, judgeFit}
+use Rattle.format.specs.Blocks.{Wanted, theKey, theData, offsetOf, lengthOf, infoOf, testOf, wrongAt, Part, partAt, partIn, blocksAt, wantedPart, judgeFit}
 use Rattle.format.proofs.Base.Judged.{good-inj, require-good, require-zero, sound-good, sound-zero}
 use Rattle.format.proofs.Sector.Sizes.{gap-least}
 use Rattle.format.proofs.Sector.BlockEnd.{key-in-offset, data-in-end, end-in-span}
-
--- Where the key or the data block opens behind the count's opening, of which r is what follows.
-abbrev pub offsetOf : Wanted → List ℕ → ℕ
-offsetOf theKey r = keyOffset
-offsetOf theData r = dataOffset r
-
--- Its length by the count.
-abbrev pub lengthOf : Wanted → List ℕ → ℕ
-lengthOf theKey r = keyLength r
-lengthOf theData r = dataLength r
-
--- Its information.
-abbrev pub infoOf : Wanted → List ℕ → List ℕ
-infoOf theKey r = keyInfo r
-infoOf theData r = dataInfo r
-
--- Its test.
-abbrev pub testOf : Wanted → List ℕ → Tested
-testOf theKey r = testKey r
-testOf theData r = testData r
-
--- The answer that refuses it at place p, where f is at fault.
-abbrev pub wrongAt : Wanted → Fault → ℕ → Answer
-wrongAt theKey f p = keyWrong f p
-wrongAt theData f p = dataWrong f p
 
 -- That answer has a number of the table that is not 0, and the place p.
 pub wrong-row : (w : Wanted) (f : Fault) (p : ℕ) → (1 ≤ wrongAt w f p .number) × (wrongAt w f p .number ≤ 16) × (wrongAt w f p .place ≡ p)

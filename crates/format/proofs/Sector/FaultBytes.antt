@@ -16,13 +16,13 @@ use Rattle.format.specs.Opening.{startsWith, plainOpening, checkFollows,
 use Rattle.format.specs.Count.{keyLength, dataLength}
 use Rattle.format.specs.Fault.{Fault, openingWrong, checkWrong, closingWrong, sound, faulty}
 use Rattle.format.specs.Block.{keyOffset, dataOffset, blocksFit, testBlock, testEmpty, testKey, testData}
-use Rattle.format.specs.Blocks.{Wanted, theKey, theData, partIn, blocksAt, wantedPart}
+use Rattle.format.specs.Blocks.{Wanted, theKey, theData, partIn, blocksAt, wantedPart, offsetOf, lengthOf, testOf, wrongAt}
 use Rattle.format.specs.BlockFault.{OpeningStands, CheckStands, ClosingStands, ZeroStands, BlockFault, EmptyFault, FaultOf, FaultIn}
 use Rattle.base.proofs.Tests.{cases, false-true}
 use Rattle.format.proofs.Base.Judged.{good-refused, sound-faulty, demand-faulty, sound-refused}
 use Rattle.format.proofs.Cells.Opening.{starts-with-self, starts-with-front}
 use Rattle.format.proofs.Cells.Local.{block-local, empty-local}
-use Rattle.format.proofs.Sector.BlocksJudged.{offsetOf, lengthOf, testOf, wrongAt, block-fits, part-judged, part-wrong}
+use Rattle.format.proofs.Sector.BlocksJudged.{block-fits, part-judged, part-wrong}
 
 -- The test b holds exactly where X does.
 record Says (b : Bool) (X : Type 0) : Type 0 where
