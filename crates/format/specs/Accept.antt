@@ -40,6 +40,14 @@ pub record Placed : Type 0 where
   pub span : List ℕ
   pub sector : Sector
 
+-- What follows the count's opening in the span of a placed sector,
+abbrev pub placedRest : Placed → List ℕ
+placedRest x = drop (openingLength (x .sector .first)) (x .span)
+
+-- and the place from which it follows.
+abbrev pub placedStart : Placed → ℕ
+placedStart x = x .place + openingLength (x .sector .first)
+
 -- The sectors ss of the spans gs, the first of which stands at place p.
 unfoldable pub placedFrom : ℕ → List (List ℕ) → List Sector → List Placed
 placedFrom p [] ss = []

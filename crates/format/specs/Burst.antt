@@ -9,66 +9,46 @@ use Rattle.crc.specs.Check.{coefficients}
 use Rattle.crc.specs.Burst.{Burst}
 use Rattle.format.specs.Layout.{plainLength, homeInfoLength, countInfoLength, checkLength}
 use Rattle.format.specs.Fault.{checkWrong}
-use Rattle.format.specs.Answer.{Answer, homeCheckWrong, countCheckWrong, keyWrong, dataWrong}
+use Rattle.format.specs.Answer.{Answer, homeCheckWrong, countCheckWrong}
 use Rattle.format.specs.Lent.{unmarked}
-use Rattle.format.specs.Count.{keyLength, dataLength}
-use Rattle.format.specs.Block.{keyOffset, dataOffset}
-use Rattle.format.specs.Blocks.{Wanted, theKey, theData}
-use Rattle.format.specs.Sector.{openingLength}
-use Rattle.format.specs.Accept.{Placed, Accepted}
+use Rattle.format.specs.Blocks.{Wanted, offsetOf, lengthOf, wrongAt}
+use Rattle.format.specs.Accept.{Placed, placedRest, placedStart, Accepted}
 
--- What follows the count's opening in the span of a sector.
-abbrev pub placedRest : Placed → List ℕ
-placedRest x = drop (openingLength (x .sector .first)) (x .span)
-
--- The place from which it follows.
-abbrev pub placedStart : Placed → ℕ
-placedStart x = x .place + openingLength (x .sector .first)
-
--- A field of a track: home, or the count, the key or the data block of a sector.
+-- A field of a track: that of home, or that of the count, the key or the data block of a sector.
 pub data Field : Type 0 where
   ofHome : Field
-  ofCount ofKey ofData : Placed → Field
-
--- The key or the data block, whichever is asked for.
-abbrev pub blockField : Wanted → Placed → Field
-blockField theKey x = ofKey x
-blockField theData x = ofData x
+  ofCount : Placed → Field
+  ofBlock : Wanted → Placed → Field
 
 -- The accepted track a has the field: the sector is one of its sectors, and the key or the data is not empty.
 abbrev pub HasField : Accepted → Field → Type 0
 HasField a ofHome = Unit {0}
 HasField a (ofCount x) = Member x (a .sectors)
-HasField a (ofKey x) = Member x (a .sectors) × (keyLength (placedRest x) ≡ 0 → ⊥)
-HasField a (ofData x) = Member x (a .sectors) × (dataLength (placedRest x) ≡ 0 → ⊥)
+HasField a (ofBlock w x) = Member x (a .sectors) × (lengthOf w (placedRest x) ≡ 0 → ⊥)
 
 -- The place of the opening before a field.
 abbrev pub openingPlace : Accepted → Field → ℕ
 openingPlace a ofHome = a .home .place
 openingPlace a (ofCount x) = x .place
-openingPlace a (ofKey x) = placedStart x + keyOffset
-openingPlace a (ofData x) = placedStart x + dataOffset (placedRest x)
+openingPlace a (ofBlock w x) = placedStart x + offsetOf w (placedRest x)
 
 -- The place of its first information byte.
 abbrev pub infoPlace : Accepted → Field → ℕ
 infoPlace a ofHome = openingPlace a ofHome + plainLength
 infoPlace a (ofCount x) = placedStart x
-infoPlace a (ofKey x) = openingPlace a (ofKey x) + plainLength
-infoPlace a (ofData x) = openingPlace a (ofData x) + plainLength
+infoPlace a (ofBlock w x) = openingPlace a (ofBlock w x) + plainLength
 
 -- How many information bytes it has: home 5, a count 9, and a key or data what the count of its sector says.
 abbrev pub infoLength : Field → ℕ
 infoLength ofHome = homeInfoLength
 infoLength (ofCount x) = countInfoLength
-infoLength (ofKey x) = keyLength (placedRest x)
-infoLength (ofData x) = dataLength (placedRest x)
+infoLength (ofBlock w x) = lengthOf w (placedRest x)
 
--- The answer that refuses it for its check: 3, 7, 10 or 11 at the opening before it, 10 and 11 with the second number of the check.
+-- The answer that refuses it for its check: 3, 7, or for a block 10 or 11 with the second number of the check, at the opening before it.
 abbrev pub checkAnswer : Accepted → Field → Answer
 checkAnswer a ofHome = homeCheckWrong (openingPlace a ofHome)
 checkAnswer a (ofCount x) = countCheckWrong (openingPlace a (ofCount x))
-checkAnswer a (ofKey x) = keyWrong checkWrong (openingPlace a (ofKey x))
-checkAnswer a (ofData x) = dataWrong checkWrong (openingPlace a (ofData x))
+checkAnswer a (ofBlock w x) = wrongAt w checkWrong (openingPlace a (ofBlock w x))
 
 -- Its information and check on the track t.
 abbrev pub checkedOn : Accepted → Field → List ℕ → List ℕ

@@ -13,29 +13,24 @@ use Rattle.format.specs.Opening.{startsWith}
 use Rattle.format.specs.Count.{dataLength}
 use Rattle.format.specs.Block.{dataOffset, emptyClosing, emptySize, blockEnd}
 use Rattle.format.specs.Blocks.{blocksAt}
-use Rattle.format.specs.Sector.{openingLength}
-use Rattle.format.specs.Accept.{Placed, Accepted, accept, endOf, lastOf}
+use Rattle.format.specs.Accept.{Placed, placedRest, placedStart, Accepted, accept, endOf, lastOf}
 use Rattle.format.specs.GapRule.{GapRule}
 use Rattle.format.specs.Written.{Pair}
 use Rattle.format.specs.Add.{add}
 use Rattle.format.proofs.Add.AddPair.{add-pair}
 
--- What follows the opening of a placed sector's count in its span.
-abbrev pub restIn : Placed → List ℕ
-restIn x = drop (openingLength (x .sector .first)) (x .span)
-
--- The place at which its data block opens.
+-- The place at which the data block of a placed sector opens.
 abbrev pub blockOpens : Placed → ℕ
-blockOpens x = x .place + openingLength (x .sector .first) + dataOffset (restIn x)
+blockOpens x = placedStart x + dataOffset (placedRest x)
 
 -- Its data block has ten bytes: DL = 0, and FF FF CC stands in its span behind the place of the 00.
 abbrev pub HasTen : Placed → Type 0
-HasTen x = (dataLength (restIn x) ≡ 0) × (startsWith emptyClosing (drop 7 (drop (dataOffset (restIn x)) (restIn x))) ≡ true)
+HasTen x = (dataLength (placedRest x) ≡ 0) × (startsWith emptyClosing (drop 7 (drop (dataOffset (placedRest x)) (placedRest x))) ≡ true)
 
 -- Then it ends ten bytes behind the place at which it opens.
 pub ten-end : (x : Placed) → HasTen x → endOf x ≡ blockOpens x + 10
 unfolding endOf blocksAt blockEnd emptySize
-ten-end x v = rw (eq-eqb (dataLength (restIn x)) 0 (v .0), v .1) (omega arith)
+ten-end x v = rw (eq-eqb (dataLength (placedRest x)) 0 (v .0), v .1) (omega arith)
 
 -- Ten bytes of two lists agree where all up to their end do.
 ten-same : (xs ys : List ℕ) (n e : ℕ) → e ≡ n + 10 → take e xs ≡ take e ys → take 10 (drop n xs) ≡ take 10 (drop n ys)

@@ -10,13 +10,10 @@ use Rattle.crc.proofs.Burst.{burst-length}
 use Rattle.format.specs.Judged.{good, refused}
 use Rattle.format.specs.Lent.{cells, unmarked}
 use Rattle.format.specs.Home.{judgeHome, firstCountPlace}
-use Rattle.format.specs.Fault.{checkWrong}
-use Rattle.format.specs.Count.{keyLength, dataLength}
-use Rattle.format.specs.Block.{keyOffset, dataOffset}
-use Rattle.format.specs.Blocks.{Wanted, theKey, theData, offsetOf, lengthOf, wrongAt}
+use Rattle.format.specs.Blocks.{Wanted, theKey, offsetOf, lengthOf}
 use Rattle.format.specs.Span.{joined}
-use Rattle.format.specs.Accept.{Placed, Accepted, spansOf, acceptCells, accept}
-use Rattle.format.specs.Burst.{placedRest, placedStart, Field, ofHome, ofCount, ofKey, ofData, blockField, HasField, infoPlace, checkAnswer, checkedOn, BurstIn}
+use Rattle.format.specs.Accept.{Placed, placedRest, Accepted, spansOf, acceptCells, accept}
+use Rattle.format.specs.Burst.{Field, ofHome, ofCount, ofBlock, HasField, infoPlace, checkAnswer, checkedOn, BurstIn}
 use Rattle.format.proofs.Sector.BlocksJudged.{block-fits}
 use Rattle.format.proofs.Sector.ReadsAs.{accepted-by}
 use Rattle.format.proofs.Track.AcceptedSpans.{accepted-track}
@@ -61,26 +58,16 @@ module _ (t m u : List ℕ) (a : Accepted) (e : accept t m ≡ good a) where
       (burst-length 16 (checkedOn a (ofCount y) t) (checkedOn a (ofCount y) u) (b .burst))
 
   -- Its key or its data block, as altered.
-  pub altered-block : (w : Wanted) (y : Placed) → Member y (a .sectors) → BurstIn a (blockField w y) t u
-      → AlteredSector t m u a y (infoPlace a (blockField w y)) (offsetOf w (placedRest y) + 6) (lengthOf w (placedRest y) + 2)
-  altered-block theKey y k b =
-      altered-sector t m u a e y k (infoPlace a (ofKey y)) (keyOffset + 6) (keyLength (placedRest y) + 2) (omega arith) (λ last f. omega (arith, block-fits theKey last (placedRest y) f)) (b .bytes) (b .same)
-      (burst-length 16 (checkedOn a (ofKey y) t) (checkedOn a (ofKey y) u) (b .burst))
-  altered-block theData y k b =
-      altered-sector t m u a e y k (infoPlace a (ofData y)) (dataOffset (placedRest y) + 6) (dataLength (placedRest y) + 2) (omega arith) (λ last f. omega (arith, block-fits theData last (placedRest y) f)) (b .bytes) (b .same)
-      (burst-length 16 (checkedOn a (ofData y) t) (checkedOn a (ofData y) u) (b .burst))
+  pub altered-block : (w : Wanted) (y : Placed) → HasField a (ofBlock w y) → BurstIn a (ofBlock w y) t u
+      → AlteredSector t m u a y (infoPlace a (ofBlock w y)) (offsetOf w (placedRest y) + 6) (lengthOf w (placedRest y) + 2)
+  altered-block w y k b =
+      altered-sector t m u a e y (k .0) (infoPlace a (ofBlock w y)) (offsetOf w (placedRest y) + 6) (lengthOf w (placedRest y) + 2) (omega arith)
+      (λ last f. omega (arith, block-fits w last (placedRest y) f)) (b .bytes) (b .same) (burst-length 16 (checkedOn a (ofBlock w y) t) (checkedOn a (ofBlock w y) u) (b .burst))
 
   -- What is read of it.
-  pub block-reads : (w : Wanted) (y : Placed) (k : Member y (a .sectors)) (b : BurstIn a (blockField w y) t u) → (lengthOf w (placedRest y) ≡ 0 → ⊥)
-      → BlockRead t m u a y (infoPlace a (blockField w y)) (offsetOf w (placedRest y) + 6) (lengthOf w (placedRest y) + 2) (altered-block w y k b) w
-  block-reads theKey y k b some = block-burst t m u a y (infoPlace a (ofKey y)) theKey (altered-block theKey y k b) some (b .burst)
-  block-reads theData y k b some = block-burst t m u a y (infoPlace a (ofData y)) theData (altered-block theData y k b) some (b .burst)
-
-  -- In a key or a data block: by 10 or 11.
-  accept-block : (w : Wanted) (y : Placed) → Member y (a .sectors) → (lengthOf w (placedRest y) ≡ 0 → ⊥) → BurstIn a (blockField w y) t u
-      → accept u m ≡ refused (wrongAt w checkWrong (placedStart y + offsetOf w (placedRest y)))
-  accept-block w y k some b =
-      block-accept t m u a y (infoPlace a (blockField w y)) (offsetOf w (placedRest y) + 6) (lengthOf w (placedRest y) + 2) (altered-block w y k b) w (block-reads w y k b some)
+  pub block-reads : (w : Wanted) (y : Placed) (k : HasField a (ofBlock w y)) (b : BurstIn a (ofBlock w y) t u)
+      → BlockRead t m u a y (infoPlace a (ofBlock w y)) (offsetOf w (placedRest y) + 6) (lengthOf w (placedRest y) + 2) (altered-block w y k b) w
+  block-reads w y k b = block-burst t m u a y (infoPlace a (ofBlock w y)) w (altered-block w y k b) (k .1) (b .burst)
 
   -- Accept refuses u for the check of the field that the burst is in, whichever it is: by 3, 7, 10 or 11 at its opening.
   pub accept-burst : (f : Field) → HasField a f → BurstIn a f t u → accept u m ≡ refused (checkAnswer a f)
@@ -88,5 +75,5 @@ module _ (t m u : List ℕ) (a : Accepted) (e : accept t m ≡ good a) where
   accept-burst (ofCount y) k b =
       let v = altered-count y k b in
       unclosed-accept t m u a y (infoPlace a (ofCount y)) 0 11 v (count-burst t m u a y (infoPlace a (ofCount y)) v (b .burst))
-  accept-burst (ofKey y) k b = accept-block theKey y (k .0) (k .1) b
-  accept-burst (ofData y) k b = accept-block theData y (k .0) (k .1) b
+  accept-burst (ofBlock w y) k b =
+      block-accept t m u a y (infoPlace a (ofBlock w y)) (offsetOf w (placedRest y) + 6) (lengthOf w (placedRest y) + 2) (altered-block w y k b) w (block-reads w y k b)

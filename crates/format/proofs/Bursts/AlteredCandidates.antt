@@ -17,10 +17,9 @@ use Rattle.format.specs.Home.{Home}
 use Rattle.format.specs.Count.{Settled, countNumber}
 use Rattle.format.specs.Span.{joined, none, cleanSpan, cleanSpans}
 use Rattle.format.specs.Sector.{Sector, openingLength, isFirst, settle, sectorIn}
-use Rattle.format.specs.Accept.{Placed, placedFrom, among}
+use Rattle.format.specs.Accept.{Placed, placedRest, placedFrom, among}
 use Rattle.format.specs.Candidate.{Candidate, countPasses, candidatesFrom}
 use Rattle.format.specs.Find.{carrying}
-use Rattle.format.specs.Burst.{placedRest}
 use Rattle.format.proofs.Spans.Shape.{Shape}
 use Rattle.format.proofs.Spans.Cutting.{shape-cons, shape-head, shape-tail}
 use Rattle.format.proofs.Sector.ReadSector.{ReadAs, restOf, read-inv, read-first, span-least}

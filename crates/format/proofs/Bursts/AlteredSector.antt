@@ -13,8 +13,8 @@ use Rattle.format.specs.Count.{unsettled}
 use Rattle.format.specs.Block.{blocksFit}
 use Rattle.format.specs.Span.{joined}
 use Rattle.format.specs.Sector.{Sector, openingLength}
-use Rattle.format.specs.Accept.{Placed, placedFrom, Accepted, spansOf, accept}
-use Rattle.format.specs.Burst.{placedRest, placedStart, SameBut}
+use Rattle.format.specs.Accept.{Placed, placedRest, placedStart, placedFrom, Accepted, spansOf, accept}
+use Rattle.format.specs.Burst.{SameBut}
 use Rattle.format.proofs.Sector.ReadSector.{restOf}
 use Rattle.format.proofs.Spans.SpanAgrees.{clean-behind}
 use Rattle.format.proofs.Track.AcceptedSpans.{Track, acceptedOf, accepted-track}

@@ -15,8 +15,7 @@ use Rattle.format.specs.Home.{Home, judgeHome, firstCountPlace}
 use Rattle.format.specs.Count.{Settled, unsettled}
 use Rattle.format.specs.Span.{spans, joined, none, cleanSpan, cleanSpans}
 use Rattle.format.specs.Sector.{Sector, openingLength, isFirst, settle, readSpan}
-use Rattle.format.specs.Accept.{Placed, placedFrom, judgeMarks, spansOf, firstCountEnd}
-use Rattle.format.specs.Burst.{placedRest, placedStart}
+use Rattle.format.specs.Accept.{Placed, placedRest, placedStart, placedFrom, judgeMarks, spansOf, firstCountEnd}
 use Rattle.format.proofs.Spans.Shape.{Shape, FirstReaches}
 use Rattle.format.proofs.Spans.Cutting.{shape-cons, shape-head, shape-tail}
 use Rattle.format.proofs.Spans.Marks.{clean-marks}

@@ -14,8 +14,8 @@ use Rattle.format.specs.Home.{findHome, firstCountPlace}
 use Rattle.format.specs.Count.{unsettled, countNumber}
 use Rattle.format.specs.Blocks.{Wanted, Part, theKey, theData, offsetOf, wrongAt, infoOf}
 use Rattle.format.specs.Span.{joined}
-use Rattle.format.specs.Accept.{Placed, Accepted, spansOf, accept}
-use Rattle.format.specs.Burst.{placedRest, placedStart, ofHome, ofCount, ofKey, ofData, blockField, HasField, infoPlace, checkAnswer, checkedOn, BurstIn}
+use Rattle.format.specs.Accept.{Placed, placedRest, placedStart, Accepted, spansOf, accept}
+use Rattle.format.specs.Burst.{ofHome, ofCount, ofBlock, HasField, infoPlace, checkAnswer, checkedOn, BurstIn}
 use Rattle.format.specs.Candidate.{Candidate, countPasses, candidatesFrom, candidates}
 use Rattle.format.specs.Find.{partOf, carrying, only, findCells, find}
 use Rattle.format.proofs.Sector.FaultBytes.{tested-fault}
@@ -79,9 +79,8 @@ module _ (t m u : List ℕ) (a : Accepted) (e : accept t m ≡ good a) (y : Plac
       })
 
   -- In its key or its data, asked for that one: Find gives Accept's answer for it, 10 or 11.
-  pub find-block-burst : (w : Wanted) → HasField a (blockField w y) → BurstIn a (blockField w y) t u → find (y .sector .number) w u m ≡ refused (checkAnswer a (blockField w y))
-  find-block-burst theKey k b = find-block theKey (infoPlace a (ofKey y)) _ _ (altered-block t m u a e theKey y (k .0) b) (block-reads t m u a e theKey y (k .0) b (k .1))
-  find-block-burst theData k b = find-block theData (infoPlace a (ofData y)) _ _ (altered-block t m u a e theData y (k .0) b) (block-reads t m u a e theData y (k .0) b (k .1))
+  pub find-block-burst : (w : Wanted) → HasField a (ofBlock w y) → BurstIn a (ofBlock w y) t u → find (y .sector .number) w u m ≡ refused (checkAnswer a (ofBlock w y))
+  find-block-burst w k b = find-block w (infoPlace a (ofBlock w y)) _ _ (altered-block t m u a e w y k b) (block-reads t m u a e w y k b)
 
 -- The track t with marks m, accepted as a, and u after a burst in home.
 module _ (t m u : List ℕ) (a : Accepted) (e : accept t m ≡ good a) (b : BurstIn a ofHome t u) where

@@ -19,8 +19,7 @@ use Rattle.format.specs.Count.{unsettled, countNumber, countFits, countC
 use Rattle.format.specs.Block.{blocksFit, testKey, testData}
 use Rattle.format.specs.Blocks.{Wanted, theKey, theData, offsetOf, lengthOf, testOf, wrongAt}
 use Rattle.format.specs.Sector.{openingLength, isFirst}
-use Rattle.format.specs.Accept.{Placed, Accepted, judgeMarks, spansOf, firstCountEnd, accept}
-use Rattle.format.specs.Burst.{placedRest, placedStart}
+use Rattle.format.specs.Accept.{Placed, placedRest, placedStart, Accepted, judgeMarks, spansOf, firstCountEnd, accept}
 use Rattle.format.proofs.Sector.Sizes.{gap-least, rest-least}
 use Rattle.format.proofs.Sector.BlocksJudged.{block-fits}
 use Rattle.format.proofs.Sector.FaultBytes.{tested-fault}

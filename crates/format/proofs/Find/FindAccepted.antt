@@ -16,9 +16,8 @@ use Rattle.format.specs.Fault.{sound}
 use Rattle.format.specs.Block.{blocksFit, testKey, testData}
 use Rattle.format.specs.Span.{none}
 use Rattle.format.specs.Sector.{Sector, openingLength, isFirst, settle, sectorIn}
-use Rattle.format.specs.Accept.{Placed, placedFrom, among, Accepted, spansOf, accept}
+use Rattle.format.specs.Accept.{Placed, placedRest, placedFrom, among, Accepted, spansOf, accept}
 use Rattle.format.specs.Candidate.{Candidate, candidates}
-use Rattle.format.specs.Burst.{placedRest}
 use Rattle.format.specs.Find.{partOf, carrying, only, candidatePart, findCells, find, contentOf}
 use Rattle.format.specs.Blocks.{Wanted, theKey, theData, Part, judgeFit, partIn, infoOf, testOf}
 use Rattle.base.proofs.Tests.{cases, false-true}

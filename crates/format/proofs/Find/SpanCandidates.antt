@@ -13,7 +13,7 @@ use Rattle.format.specs.Home.{Home, firstCountPlace}
 use Rattle.format.specs.Count.{Settled}
 use Rattle.format.specs.Span.{beforeOpening, laterSpans, joined, none, cleanSpan, cleanSpans}
 use Rattle.format.specs.Sector.{Sector, openingLength, isFirst, settle}
-use Rattle.format.specs.Accept.{Placed, placedFrom}
+use Rattle.format.specs.Accept.{Placed, placedRest, placedFrom}
 use Rattle.format.specs.Candidate.{Candidate, firstOpensAt, candidateAt, countPasses, standsAt, candidatesFrom}
 use Rattle.base.specs.Pick.{pick}
 use Rattle.base.proofs.Tests.{cases, and-both}
@@ -32,7 +32,7 @@ candidatesOf (x ∷ xs) =
       place = x .place;
       first = x .sector .first;
       last = none xs;
-      rest = drop (openingLength (x .sector .first)) (x .span);
+      rest = placedRest x;
     }
     ∷ candidatesOf xs
 
