@@ -18,7 +18,7 @@ use Rattle.format.specs.Accept.{Placed, placedFrom, Accepted, spansOf, accept, 
 use Rattle.format.specs.Listing.{listed}
 use Rattle.base.proofs.Tests.{and-both}
 use Rattle.format.proofs.Spans.Shape.{Shape}
-use Rattle.format.proofs.Spans.Cutting.{joined-spans}
+use Rattle.format.proofs.Spans.Cutting.{joined-spans, shape-tail}
 use Rattle.format.proofs.Track.HomeLocal.{home-window}
 use Rattle.format.proofs.Spans.SpanAgrees.{span-agrees}
 use Rattle.format.proofs.Sector.ReadSector.{restOf, read-inv, span-least}
@@ -27,7 +27,6 @@ use Rattle.format.proofs.Sector.ReadBack.{read-valid}
 use Rattle.format.proofs.Sector.ReadsAs.{Reads, none-placed, accepted-by}
 use Rattle.format.proofs.Track.AcceptedSpans.{accepted-track}
 use Rattle.format.proofs.Track.Pairs.{length-cells, accepted-pair, lent-marks, lent-length}
-use Rattle.format.proofs.Find.SpanCandidates.{shape-rest}
 use Rattle.sector.specs.As.{asAddress}
 use Rattle.sectors.specs.declared.SectorAt.{SectorAt as SectorCode}
 use Rattle.sectors.specs.SectorAt.{SectorAt, lastFirstCount, opensFirst, sectorAt, asSectorAt}
@@ -73,7 +72,7 @@ spans-step t m h i x p (g ∷ gs) (s ∷ ss) e k c d l w b f =
     let j : q ≤ length (cells t m) = omega (arith, ap length d, length-drop p (cells t m), length-append g (joined gs)) in
     let v = span-steps t m h i x p g gs s (e .0) k c d l w b f in (
       subst (Stepping t m p (record { place = p; span = g; sector = s })) (sym (none-placed h (suc i) (settle x s) q gs ss (e .1))) v,
-      spans-step t m h (suc i) (settle x s) q gs ss (e .1) (shape-rest i g gs k) (and-both (cleanSpan i g) (cleanSpans (suc i) gs) c .1) d′ j w (omega arith) (sym (opens-high q (omega (arith, v .span-least)))),
+      spans-step t m h (suc i) (settle x s) q gs ss (e .1) (shape-tail i g gs k) (and-both (cleanSpan i g) (cleanSpans (suc i) gs) c .1) d′ j w (omega arith) (sym (opens-high q (omega (arith, v .span-least)))),
     )
 
 -- Where stepping over an accepted track starts.

@@ -28,7 +28,7 @@ use Rattle.format.proofs.Sector.OtherRest.{withRest, length-with-rest, 
 use Rattle.format.proofs.Track.Sectors.{Distinct, numbersOf}
 use Rattle.format.proofs.Find.SpanCandidates.{passing, candidateIn, candidatesOf, AtPosition, position-next, read-some, candidates-span, candidates-read, candidates-reads}
 use Rattle.format.proofs.Find.FindAccepted.{ReadWell, read-well, reads-all, member-among, carrying-none}
-use Rattle.format.proofs.Bursts.AlteredSpan.{alteredSpans, shape-altered, clean-altered}
+use Rattle.format.proofs.Bursts.AlteredSpan.{alteredSpans, rest-length, shape-altered, clean-altered}
 
 -- Where no candidate behind the first carries n, only the first can.
 carrying-alone : (n : ℕ) (x : Candidate) (xs : List Candidate) → carrying n xs ≡ [] → carrying n (passing x xs) ≡ carrying n (passing x [])
@@ -61,7 +61,7 @@ module _ (y : Placed) (z : List ℕ) (u : unmarked z ≡ true) (l : length z ≡
       let k = and-both (cleanSpan i g) (cleanSpans (suc i) gs) c in
       let f : s .first ≡ isFirst i = read-first m i x (none gs) g s v in
       let in-span : o ≤ length g = omega (arith, span-least m i x (none gs) g s v) in
-      let size : length z ≡ length (restOf i g) = l ∙ ap (λ (q : Placed). length (placedRest q)) e ∙ ap (λ (b : Bool). length (drop (openingLength b) g)) f in
+      let size = rest-length y z i p g s e f l in
       let long : length (withRest i g z) ≡ length g = omega (arith, length-with-rest i g z in-span, length-drop o g) in
       let here = candidates-span i h p (withRest i g z) gs (omega arith) (opened-with-rest i g z in-span (v .opened))
       (shape-cons i (withRest i g z) gs (shape-with-rest i g z (shape-head i g gs t) (k .0) u) (shape-tail i g gs t)) (and-make (clean-with-rest i g z (shape-head i g gs t) (k .0) u) (k .1)) a in

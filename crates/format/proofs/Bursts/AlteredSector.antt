@@ -20,7 +20,7 @@ use Rattle.format.proofs.Spans.SpanAgrees.{clean-behind}
 use Rattle.format.proofs.Track.AcceptedSpans.{Track, acceptedOf, accepted-track}
 use Rattle.format.proofs.Track.Pairs.{accepted-pair, lent-length}
 use Rattle.format.proofs.Track.Sectors.{Distinct, numbersOf, numbers-distinct}
-use Rattle.format.proofs.Bursts.AlteredSpan.{StandsIn, stands-in, alteredSpans}
+use Rattle.format.proofs.Bursts.AlteredSpan.{StandsIn, stands-rest, stands-fit, stands-in, alteredSpans}
 use Rattle.format.proofs.Bursts.AlteredBytes.{CellParts, cell-parts, part-unmarked, putIn, length-put, unmarked-put, rest-put-is, whole-put-is}
 
 -- The sector y of the accepted track t with marks m; u has other bytes from place q on, n of them, which stand from off on behind the count's opening of y.
@@ -99,17 +99,13 @@ module _ (t m u : List ℕ) (a : Accepted) (e : accept t m ≡ good a) (y : Plac
     cells-old : cells t m ≡ xs ++ (r ++ ys)
     cells-old = sym whole ∙ ap (λ (l : List ℕ). head ++ l) (stands .before-is) ∙ sym (append-assoc head (stands .front) (r ++ ys))
 
-    -- r is the rest of the span in its position,
-    rest-in-position : r ≡ restOf (stands .position) (y .span)
-    rest-in-position = ap (λ (b : Bool). drop (openingLength b) (y .span)) (stands .first-is)
-
-    -- has no mark,
+    -- r has no mark,
     rest-unmarked : unmarked r ≡ true
-    rest-unmarked = ap unmarked rest-in-position ∙ clean-behind (stands .position) (y .span) (stands .clean)
+    rest-unmarked = ap unmarked (stands-rest y z stands) ∙ clean-behind (stands .position) (y .span) (stands .clean)
 
     -- and the altered bytes lie in it.
     altered-inside : off + n ≤ length r
-    altered-inside = fit (stands .last) (ap (blocksFit (stands .last)) rest-in-position ∙ stands .read .blocks-fit)
+    altered-inside = fit (stands .last) (stands-fit y z stands)
 
     -- The cells of t and of u by these bytes.
     parts : CellParts q n t u m

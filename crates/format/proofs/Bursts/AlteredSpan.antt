@@ -13,13 +13,14 @@ use Rattle.format.specs.Judged.{good}
 use Rattle.format.specs.Lent.{unmarked}
 use Rattle.format.specs.Home.{Home, judgeHome, firstCountPlace}
 use Rattle.format.specs.Count.{Settled, unsettled}
+use Rattle.format.specs.Block.{blocksFit}
 use Rattle.format.specs.Span.{spans, joined, none, cleanSpan, cleanSpans}
 use Rattle.format.specs.Sector.{Sector, openingLength, isFirst, settle, readSpan}
 use Rattle.format.specs.Accept.{Placed, placedRest, placedStart, placedFrom, judgeMarks, spansOf, firstCountEnd}
 use Rattle.format.proofs.Spans.Shape.{Shape, FirstReaches}
 use Rattle.format.proofs.Spans.Cutting.{shape-cons, shape-head, shape-tail}
 use Rattle.format.proofs.Spans.Marks.{clean-marks}
-use Rattle.format.proofs.Sector.ReadSector.{ReadAs, restOf, read-inv, read-first, span-least}
+use Rattle.format.proofs.Sector.ReadSector.{ReadAs, restOf, read-inv, read-first, placed-rest, span-least}
 use Rattle.format.proofs.Sector.ReadsAs.{Reads}
 use Rattle.format.proofs.Sector.OtherRest.{withRest, length-with-rest, clean-with-rest, shape-with-rest}
 use Rattle.format.proofs.Track.HomeLocal.{home-local}
@@ -70,6 +71,10 @@ module _ (y : Placed) (z : List ℕ) where
       let k = and-both (cleanSpan i g) (cleanSpans (suc i) gs) c in
       and-make (k .0) (clean-altered (suc i) (p + length g) gs ss m u (shape-tail i g gs v) (k .1))
 
+  -- Where z is as long as what it replaces it is as long as the rest of the span of y.
+  pub rest-length : (i p : ℕ) (g : List ℕ) (s : Sector) → y ≡ record { place = p; span = g; sector = s } → s .first ≡ isFirst i → length z ≡ length (placedRest y) → length z ≡ length (restOf i g)
+  rest-length i p g s e f l = l ∙ ap (λ (q : Placed). length (placedRest q)) e ∙ ap length (placed-rest (record { place = p; span = g; sector = s }) i f)
+
   -- The span of y, where it stands: Accept comes to it with z in place of what was read as y.
   pub record StandsIn (h : Home) (i : ℕ) (x : Settled) (p : ℕ) (gs ks : List (List ℕ)) : Type 0 where
     pub position : ℕ
@@ -86,6 +91,14 @@ module _ (y : Placed) (z : List ℕ) where
     pub before-is : joined gs ≡ front ++ (placedRest y ++ back)
     pub after-is : joined ks ≡ front ++ (z ++ back)
 
+  -- What followed its opening is the rest of the span in its position,
+  pub stands-rest : {h : Home} {i : ℕ} {x : Settled} {p : ℕ} {gs ks : List (List ℕ)} (v : StandsIn h i x p gs ks) → placedRest y ≡ restOf (v .position) (y .span)
+  stands-rest v = placed-rest y (v .position) (v .first-is)
+
+  -- and in it the blocks did fit.
+  pub stands-fit : {h : Home} {i : ℕ} {x : Settled} {p : ℕ} {gs ks : List (List ℕ)} (v : StandsIn h i x p gs ks) → blocksFit (v .last) (placedRest y) ≡ true
+  stands-fit v = ap (blocksFit (v .last)) (stands-rest v) ∙ v .read .blocks-fit
+
   -- As the first of the spans.
   stands-first : (h : Home) (i : ℕ) (x : Settled) (p : ℕ) (g : List ℕ) (gs : List (List ℕ)) (s : Sector) → readSpan h i x p (none gs) g ≡ good s → cleanSpan i g ≡ true → y ≡ record { place = p; span = g; sector = s }
       → StandsIn h i x p (g ∷ gs) (withRest i g z ∷ gs)
@@ -95,7 +108,7 @@ module _ (y : Placed) (z : List ℕ) where
       let v = read-inv h i x p (none gs) g s r in
       let f : s .first ≡ isFirst i = read-first h i x (none gs) g s v in
       let within : o ≤ length g = omega (arith, span-least h i x (none gs) g s v) in
-      let rest : placedRest y ≡ drop o g = ap placedRest e ∙ ap (λ (b : Bool). drop (openingLength b) g) f in
+      let rest : placedRest y ≡ drop o g = ap placedRest e ∙ placed-rest (record { place = p; span = g; sector = s }) i f in
       record {
         position = i;
         shared = x;
@@ -150,7 +163,7 @@ module _ (y : Placed) (z : List ℕ) where
   reaches-altered h i x p n (g ∷ []) (s ∷ ss) (inl e) r l o f = tt
   reaches-altered h i x p n (g ∷ []) (s ∷ ss) (inr m) r l o f = absurd m
   reaches-altered h i x p n (g ∷ k ∷ gs) (s ∷ ss) (inl e) r l o f =
-      let size : length z ≡ length (restOf i g) = l ∙ ap (λ (q : Placed). length (placedRest q)) e ∙ ap (λ (b : Bool). length (drop (openingLength b) g)) (read-first h i x false g s (read-inv h i x p false g s (r .0))) in
+      let size = rest-length i p g s e (read-first h i x false g s (read-inv h i x p false g s (r .0))) l in
       omega (arith, length-with-rest i g z (omega arith), length-drop (openingLength (isFirst i)) g)
   reaches-altered h i x p n (g ∷ k ∷ gs) (s ∷ ss) (inr m) r l o f = cons (alteredSpans (suc i) (p + length g) (k ∷ gs) ss m)
     where

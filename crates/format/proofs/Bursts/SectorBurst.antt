@@ -28,7 +28,7 @@ use Rattle.format.proofs.Sector.OtherRest.{withRest, rest-with-rest, op
 use Rattle.format.proofs.Faults.AcceptFault.{Reached, restReached, ComesTo, comes-accept, faulty-accept}
 use Rattle.format.proofs.Bursts.Field.{burst-unclosed}
 use Rattle.format.proofs.Bursts.Rest.{number-kept, closed-kept, fields-kept, blocks-kept, key-kept, place-kept, burst-tested}
-use Rattle.format.proofs.Bursts.AlteredSpan.{home-altered, marks-altered, spans-altered}
+use Rattle.format.proofs.Bursts.AlteredSpan.{stands-rest, stands-fit, home-altered, marks-altered, spans-altered}
 use Rattle.format.proofs.Bursts.AlteredSector.{AlteredSector}
 
 -- A sector y of which bytes behind the count's opening are altered.
@@ -60,14 +60,10 @@ module _ (t m u : List ℕ) (a : Accepted) (y : Placed) (q off n : ℕ) (v : Alt
   reached-opened : v .stands .position ≡ 0 → startsWith plainOpening (withRest (v .stands .position) (y .span) (v .rest)) ≡ true
   reached-opened = opened-with-rest (v .stands .position) (y .span) (v .rest) (omega (arith, opening-inside)) (v .stands .read .opened)
 
-  -- What followed it before, by the position of the span.
-  was-rest : placedRest y ≡ restOf (v .stands .position) (y .span)
-  was-rest = ap (λ (b : Bool). drop (openingLength b) (y .span)) (v .stands .first-is)
-
   -- The count fits as before.
   pub fits-still : countFits (v .rest) ≡ true
   unfolding countFits
-  fits-still = ap (λ (k : ℕ). leb 12 k) (v .length-rest ∙ ap length was-rest) ∙ v .stands .read .count-fits
+  fits-still = ap (λ (k : ℕ). leb 12 k) (v .length-rest ∙ ap length (stands-rest y (v .rest) (v .stands))) ∙ v .stands .read .count-fits
 
   -- Where its check or closing byte is wrong Accept gives 7 at its opening.
   pub unclosed-accept : countClosed (v .rest) ≡ false → accept u m ≡ refused (countCheckWrong (y .place))
@@ -85,14 +81,10 @@ module _ (t m u : List ℕ) (a : Accepted) (y : Placed) (q off n : ℕ) (v : Alt
     pub place : offsetOf w (v .rest) ≡ offsetOf w (placedRest y)
     pub wrong : testOf w (v .rest) ≡ faulty checkWrong
 
-  -- Before that the blocks did fit,
-  fit-was : blocksFit (v .stands .last) (placedRest y) ≡ true
-  fit-was = ap (blocksFit (v .stands .last)) was-rest ∙ v .stands .read .blocks-fit
-
-  -- and were sound.
+  -- Before that they were sound.
   test-was : (w : Wanted) → testOf w (placedRest y) ≡ sound
-  test-was theKey = ap testKey was-rest ∙ v .stands .read .key-right
-  test-was theData = ap testData was-rest ∙ v .stands .read .data-right
+  test-was theKey = ap testKey (stands-rest y (v .rest) (v .stands)) ∙ v .stands .read .key-right
+  test-was theData = ap testData (stands-rest y (v .rest) (v .stands)) ∙ v .stands .read .data-right
 
   -- Accept gives 10 or 11 at the opening of such a block, with 2 for the check.
   pub block-accept : (w : Wanted) → BlockRead w → accept u m ≡ refused (wrongAt w checkWrong (placedStart y + offsetOf w (placedRest y)))
@@ -109,7 +101,7 @@ module _ (t m u : List ℕ) (a : Accepted) (y : Placed) (q off n : ℕ) (v : Alt
             record {
               opened = reached-opened;
               count-judged = rw reached-rest (count-make (a .home) (v .stands .position) (v .stands .shared) (y .place) (v .rest) fits-still (k .closed) (k .fields));
-              fits = rw reached-rest (k .fits (v .stands .last) fit-was);
+              fits = rw reached-rest (k .fits (v .stands .last) (stands-fit y (v .rest) (v .stands)));
               key-sound = λ d. rw reached-rest (k .key d);
               place-is = ap₂ (λ (i j : ℕ). y .place + i + j) (ap openingLength (v .stands .first-is)) (sym (k .place) ∙ ap (offsetOf w) (sym reached-rest));
               fault = rw reached-rest (tested-fault w checkWrong (v .rest) (k .wrong));
@@ -124,7 +116,7 @@ count-burst t m u a y q v b =
     let r : List ℕ = placedRest y in
     let was : take 11 r ≡ take 11 (drop q t) = ap (take 11) (v .rest-was) ∙ take-at (take 11 (drop q t)) (drop 11 r) 11 (v .old-size) in
     let is : take 11 (v .rest) ≡ take 11 (drop q u) = ap (take 11) (v .rest-is) ∙ take-at (take 11 (drop q u)) (drop 11 r) 11 (v .new-size) in
-    burst-unclosed 9 r (v .rest) (ap (closedAfter 9) (was-rest t m u a y q 0 11 v) ∙ v .stands .read .count-closed) (rw (was, is) b)
+    burst-unclosed 9 r (v .rest) (ap (closedAfter 9) (stands-rest y (v .rest) (v .stands)) ∙ v .stands .read .count-closed) (rw (was, is) b)
 
 -- The altered bytes are information and check of the key or the data block w.
 module _ (t m u : List ℕ) (a : Accepted) (y : Placed) (q : ℕ) (w : Wanted) (v : AlteredSector t m u a y q (offsetOf w (placedRest y) + 6) (lengthOf w (placedRest y) + 2)) where
@@ -157,7 +149,7 @@ module _ (t m u : List ℕ) (a : Accepted) (y : Placed) (q : ℕ) (w : Wanted) (
   block-burst some b =
       let r : List ℕ = placedRest y in
       let e : xs ++ (ys ++ back) ≡ r = sym (v .rest-was) in
-      let within : off ≤ length r = omega (arith, block-fits w (v .stands .last) r (fit-was t m u a y q off n v)) in
+      let within : off ≤ length r = omega (arith, block-fits w (v .stands .last) r (stands-fit y (v .rest) (v .stands))) in
       let o : length xs ≡ offsetOf w (xs ++ (ys ++ back)) + 6 = rw e (length-take-le off r within) in
       let s : length ys ≡ lengthOf w (xs ++ (ys ++ back)) + 2 = rw e (v .old-size) in
       let k : length zs ≡ length ys = v .new-size ∙ sym (v .old-size) in
@@ -167,8 +159,8 @@ module _ (t m u : List ℕ) (a : Accepted) (y : Placed) (q : ℕ) (w : Wanted) (
       let x = v .stands .shared in
       record {
         number-is = still countNumber (number-kept w xs ys zs back o s k);
-        closed = still countClosed (closed-kept w xs ys zs back o s k) ∙ ap countClosed (was-rest t m u a y q off n v) ∙ v .stands .read .count-closed;
-        fields = still (countFieldsRight h i x) (fields-kept w xs ys zs back o s k h i x) ∙ ap (countFieldsRight h i x) (was-rest t m u a y q off n v) ∙ v .stands .read .fields-right;
+        closed = still countClosed (closed-kept w xs ys zs back o s k) ∙ ap countClosed (stands-rest y (v .rest) (v .stands)) ∙ v .stands .read .count-closed;
+        fields = still (countFieldsRight h i x) (fields-kept w xs ys zs back o s k h i x) ∙ ap (countFieldsRight h i x) (stands-rest y (v .rest) (v .stands)) ∙ v .stands .read .fields-right;
         fits = λ last f. still (blocksFit last) (blocks-kept w xs ys zs back o s k last nz) ∙ f;
         key = λ d. still testKey (key-kept w xs ys zs back o s k d) ∙ test-was t m u a y q off n v theKey;
         place = still (offsetOf w) (place-kept w xs ys zs back o s k .0);

@@ -18,14 +18,14 @@ use Rattle.format.proofs.Base.Judged.{then-good}
 use Rattle.base.proofs.Tests.{false-true, and-both}
 use Rattle.format.proofs.Spans.Shape.{Shape, FirstReaches}
 use Rattle.format.proofs.Cells.Opening.{unmarked-append, length-opens}
-use Rattle.format.proofs.Spans.Cutting.{joined-spans, shape-spans, later-unmarked}
+use Rattle.format.proofs.Spans.Cutting.{joined-spans, shape-spans, shape-tail, later-unmarked}
 use Rattle.format.proofs.Track.HomeLocal.{judged-place}
 use Rattle.format.proofs.Spans.SpanAgrees.{first-by-mark}
 use Rattle.format.proofs.Spans.Marks.{marks-clean}
 use Rattle.format.proofs.Sector.ReadSector.{read-inv, read-first}
 use Rattle.format.proofs.Sector.ReadsAs.{Reads, accepted-by, none-placed}
 use Rattle.format.proofs.Track.AcceptedSpans.{Track, acceptedOf, accepted-track}
-use Rattle.format.proofs.Find.SpanCandidates.{candidatesOf, joined-seam, passed-over, shape-rest, candidates-reads}
+use Rattle.format.proofs.Find.SpanCandidates.{candidatesOf, joined-seam, passed-over, candidates-reads}
 
 -- A home that is judged was found at its place.
 pub home-found : (c : List ℕ) (h : Home) → judgeHome c ≡ good h → findHome c ≡ good (h .place)
@@ -94,7 +94,7 @@ clean-by-mark c i p [] t k l d = tt
 clean-by-mark c i p (g ∷ gs) t k l d =
     let w = first-by-mark i g gs t k l in
     let q : drop (p + length g) c ≡ joined gs = sym (drop-drop (length g) p c) ∙ ap (drop (length g)) d ∙ drop-append-seam g (joined gs) in
-    let r : Shape (suc i) gs = shape-rest i g gs t in (
+    let r : Shape (suc i) gs = shape-tail i g gs t in (
       record {
         length-is = rw d (w .0);
         span-is = rw (d, w .0, take-append-seam g (joined gs));

@@ -19,7 +19,7 @@ use Rattle.base.specs.Pick.{pick}
 use Rattle.base.proofs.Tests.{cases, and-both}
 use Rattle.format.proofs.Spans.Shape.{Shape}
 use Rattle.format.proofs.Cells.Opening.{starts-with-append, opens-seam}
-use Rattle.format.proofs.Spans.Cutting.{opens-joined}
+use Rattle.format.proofs.Spans.Cutting.{opens-joined, shape-tail}
 use Rattle.format.proofs.Spans.SpanAgrees.{span-agrees}
 use Rattle.format.proofs.Sector.ReadSector.{ReadAs, read-inv, read-first, span-least}
 use Rattle.format.proofs.Sector.ReadsAs.{Reads, none-placed}
@@ -94,11 +94,6 @@ unfolding laterSpans
 span-tail zero x xs gs s = no-opening x xs (s .0) .1
 span-tail (suc i) x xs gs s = let z : ((x ∷ beforeOpening xs) ∷ laterSpans xs) ≡ (x ∷ xs) ∷ [] = rw (s .0 .0) at (s .0 .1) in cc
 
--- The spans behind the first have the shape of later ones.
-pub shape-rest : (i : ℕ) (g : List ℕ) (gs : List (List ℕ)) → Shape i (g ∷ gs) → Shape (suc i) gs
-shape-rest zero g gs s = s .1
-shape-rest (suc i) g gs s = s .1
-
 -- The count of a span in position i opens.
 span-opens : (i : ℕ) (g : List ℕ) (gs : List (List ℕ)) → Shape i (g ∷ gs) → (isFirst i || opens (joined (g ∷ gs))) ≡ true
 span-opens zero g gs s = refl
@@ -138,7 +133,7 @@ candidates-span zero h p [] gs l o t c a = absurd (omega arith)
 candidates-span (suc i) h p [] gs l o t c a = absurd (omega arith)
 candidates-span i h p (z ∷ zs) gs l o t c a =
     let d : candidateAt (isFirst i) p (z ∷ (zs ++ joined gs)) ≡ candidateIn i p (none gs) (z ∷ zs) = candidate-agrees i p (z ∷ zs) gs l t c in
-    let w = passed-over h (suc p) zs [] (joined gs) (ap laterSpans (append-nil zs) ∙ span-tail i z zs gs t) (joined-seam i gs (shape-rest i (z ∷ zs) gs t)) (λ k b e. position-past i h p k a e) in
+    let w = passed-over h (suc p) zs [] (joined gs) (ap laterSpans (append-nil zs) ∙ span-tail i z zs gs t) (joined-seam i gs (shape-tail i (z ∷ zs) gs t)) (λ k b e. position-past i h p k a e) in
     candidate-here (good h) p z (zs ++ joined gs) (isFirst i) (span-first i h p (z ∷ zs) gs l o a) (span-opens i (z ∷ zs) gs t)
     ∙ ap₂ passing d (w ∙ ap (λ (k : ℕ). candidatesFrom (good h) k (joined gs)) (omega arith))
 
@@ -163,4 +158,4 @@ candidates-reads m i x h p (g ∷ gs) (s ∷ ss) e t c a =
     rw (none-placed m (suc i) (settle x s) (p + length g) gs ss (e .1), read-first m i x (none gs) g s v)
     (candidates-read m i x h p (none gs) g gs s v t c a
     ∙ ap (λ (ys : List Candidate). candidateIn i p (none gs) g ∷ ys)
-    (candidates-reads m (suc i) (settle x s) h (p + length g) gs ss (e .1) (shape-rest i g gs t) (k .1) (position-next i h p (length g) a (read-some m i x (none gs) g s v))))
+    (candidates-reads m (suc i) (settle x s) h (p + length g) gs ss (e .1) (shape-tail i g gs t) (k .1) (position-next i h p (length g) a (read-some m i x (none gs) g s v))))

@@ -15,6 +15,7 @@ use Rattle.format.specs.Count.{Settled, keyLength, dataLength, countFits
 use Rattle.format.specs.Blocks.{theKey, theData, blocksAt, judgeFit}
 use Rattle.format.specs.Block.{blockEnd, leastGap, blocksFit, testKey, testData, keyInfo, dataInfo, blockInfo}
 use Rattle.format.specs.Sector.{Sector, openingLength, isFirst, sectorIn, judgeCount, readBlocks, judgeSector, readSpan}
+use Rattle.format.specs.Accept.{Placed, placedRest}
 use Rattle.format.proofs.Base.Judged.{good-inj, then-good, require-good, require-holds}
 use Rattle.format.proofs.Sector.Sizes.{rest-least}
 use Rattle.format.proofs.Sector.BlocksJudged.{fit-good, part-good}
@@ -104,6 +105,10 @@ read-inv h (suc i) x p last g s e =
 pub read-first : (h : Home) (i : ℕ) (x : Settled) (last : Bool) (g : List ℕ) (s : Sector) → ReadAs h i x last g s → s .first ≡ isFirst i
 unfolding sectorIn
 read-first h i x last g s v = ap (λ (y : Sector). y .first) (v .sector-is)
+
+-- What follows the opening of a sector's count, by the position of its span.
+pub placed-rest : (y : Placed) (i : ℕ) → y .sector .first ≡ isFirst i → placedRest y ≡ restOf i (y .span)
+placed-rest y i f = ap (λ (b : Bool). drop (openingLength b) (y .span)) f
 
 -- A span that passes every test is read, at any place.
 pub read-make : (h : Home) (i : ℕ) (x : Settled) (p : ℕ) (last : Bool) (g : List ℕ) (s : Sector) → ReadAs h i x last g s → readSpan h i x p last g ≡ good s
