@@ -2,6 +2,7 @@
 pub mod Field
 pub mod Rest
 pub mod AlteredBytes
+pub mod AlteredHome
 pub mod AlteredSpan
 pub mod AlteredCandidates
 pub mod AlteredSector

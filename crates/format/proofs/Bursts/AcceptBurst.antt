@@ -1,49 +1,32 @@
 -- A track that Accept accepted, after a burst in one of its fields: Accept refuses it for that field's check.
 use mathlib.Core.Path.{_≡_, sym, ap, _∙_}
-use Prim.Native.Nat.{ℕ, _+_, _≤_}
+use Prim.Native.Nat.{ℕ, _+_}
 use native.Mathlib.Omega.{arith}
-use mathlib.Core.Bool.{true}
-use mathlib.Core.List.{List, [], _++_}
-use lib.ListN.{length, take, drop, length-append}
+use mathlib.Core.List.{List, _++_}
 use Rattle.base.specs.Lists.{Member}
 use Rattle.crc.proofs.Burst.{burst-length}
 use Rattle.format.specs.Judged.{good, refused}
-use Rattle.format.specs.Lent.{cells, unmarked}
-use Rattle.format.specs.Home.{judgeHome, firstCountPlace}
+use Rattle.format.specs.Lent.{cells}
+use Rattle.format.specs.Home.{judgeHome}
 use Rattle.format.specs.Blocks.{Wanted, theKey, offsetOf, lengthOf}
-use Rattle.format.specs.Span.{joined}
-use Rattle.format.specs.Accept.{Placed, placedRest, Accepted, spansOf, acceptCells, accept}
+use Rattle.format.specs.Accept.{Placed, placedRest, Accepted, acceptCells, accept}
 use Rattle.format.specs.Burst.{Field, ofHome, ofCount, ofBlock, HasField, infoPlace, checkAnswer, checkedOn, BurstIn}
 use Rattle.format.proofs.Sector.BlocksJudged.{block-fits}
 use Rattle.format.proofs.Sector.ReadsAs.{accepted-by}
-use Rattle.format.proofs.Track.AcceptedSpans.{accepted-track}
-use Rattle.format.proofs.Track.Pairs.{accepted-pair, lent-length}
-use Rattle.format.proofs.Bursts.AlteredBytes.{CellParts, cell-parts, part-unmarked}
+use Rattle.format.proofs.Track.Pairs.{accepted-pair}
+use Rattle.format.proofs.Bursts.AlteredBytes.{CellParts}
+use Rattle.format.proofs.Bursts.AlteredHome.{home-parts}
 use Rattle.format.proofs.Bursts.AlteredSector.{AlteredSector, altered-sector}
 use Rattle.format.proofs.Bursts.HomeBurst.{home-burst}
 use Rattle.format.proofs.Bursts.SectorBurst.{BlockRead, unclosed-accept, block-accept, count-burst, block-burst}
 
 -- The track t with marks m, accepted as a, and u after a burst in one of its fields.
 module _ (t m u : List ℕ) (a : Accepted) (e : accept t m ≡ good a) where
-  -- The cells of t and of u by the altered bytes of home.
-  pub home-parts : BurstIn a ofHome t u → CellParts (infoPlace a ofHome) 7 t u m
-  home-parts b =
-      let pair = accepted-pair t m a e in
-      let v = accepted-track (cells t m) a (pair .1) in
-      let q : ℕ = infoPlace a ofHome in
-      let head : List ℕ = take (firstCountPlace (a .home .place)) (cells t m) in
-      let gs : List (List ℕ) = spansOf (a .home) (cells t m) in
-      let whole : head ++ joined gs ≡ cells t m = v .2 in
-      let size : length head ≡ firstCountPlace (a .home .place) = v .1 .head-length in
-      let long : q + 7 ≤ length t = omega (arith, lent-length t m (pair .0) .0, ap length whole, length-append head (joined gs)) in
-      let plain : unmarked (take 7 (drop q (cells t m))) ≡ true = ap (λ (l : List ℕ). unmarked (take 7 (drop q l))) (sym whole) ∙ part-unmarked [] head (joined gs) q q 7 (omega arith) (omega arith) (v .1 .head-unmarked) in
-      cell-parts q 7 t u m (pair .0) long plain (b .same) (burst-length 16 (checkedOn a ofHome t) (checkedOn a ofHome u) (b .burst))
-
   -- In home: it is refused by 3.
   accept-home : BurstIn a ofHome t u → accept u m ≡ refused (checkAnswer a ofHome)
   unfolding accept acceptCells
   accept-home b =
-      let c : CellParts (infoPlace a ofHome) 7 t u m = home-parts b in
+      let c : CellParts (infoPlace a ofHome) 7 t u m = home-parts t m u a e (b .bytes) (b .same) (burst-length 16 (checkedOn a ofHome t) (checkedOn a ofHome u) (b .burst)) in
       let ys : List ℕ = checkedOn a ofHome t in
       let zs : List ℕ = checkedOn a ofHome u in
       let judged : judgeHome (c .front ++ (ys ++ c .back)) ≡ good (a .home) = ap judgeHome (sym (c .old-is)) ∙ accepted-by (cells t m) a (accepted-pair t m a e .1) .home-judged in

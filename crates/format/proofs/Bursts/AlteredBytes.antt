@@ -8,6 +8,7 @@ use lib.ListN.{length, take, drop, length-append, length-drop, take-append-drop}
 use lib.Seq.{take-at, drop-at, take-append-le, drop-append-le, take-append-add, drop-append-add, drop-drop, length-take-le}
 use lib.Dec.{ltb}
 use borrow.Author.Tests.{ltb-true}
+use Rattle.base.specs.Laid.{laidAt}
 use Rattle.base.proofs.Tests.{and-both}
 use Rattle.base.proofs.Lists.{part-length}
 use Rattle.format.specs.Lent.{marksLegal, lentForWriting, lentForReading, cells, unmarked}
@@ -89,19 +90,16 @@ cell-parts q n t u m l w e s k =
         ap length (three-parts q n v) ∙ length-append (take q v) (take n (drop q v) ++ drop (q + n) v) ∙ ap (λ (j : ℕ). length (take q v) + j) (length-append (take n (drop q v)) (drop (q + n) v)) in
         omega (arith, size u, size t, ap length a, ap length b)
 
--- The list r with ns in the place of its n elements from place off on.
-abbrev pub putIn : ℕ → ℕ → List ℕ → List ℕ → List ℕ
-putIn off n ns r = take off r ++ (ns ++ drop (off + n) r)
+-- The list ns laid over n elements of r, from place off on.
+pub laid-parts : (off n : ℕ) (ns r : List ℕ) → length ns ≡ n → laidAt off ns r ≡ take off r ++ (ns ++ drop (off + n) r)
+unfolding laidAt
+laid-parts off n ns r l = ap (λ (k : ℕ). take off r ++ (ns ++ drop (off + k) r)) l
 
--- It is as long as r,
-pub length-put : (off n : ℕ) (ns r : List ℕ) → length ns ≡ n → off + n ≤ length r → length (putIn off n ns r) ≡ length r
-length-put off n ns r l w =
-    omega (arith, length-append (take off r) (ns ++ drop (off + n) r), length-append ns (drop (off + n) r), length-take-le off r (omega arith), length-drop (off + n) r)
-
--- and unmarked, where both are.
-pub unmarked-put : (off n : ℕ) (ns r : List ℕ) → unmarked ns ≡ true → unmarked r ≡ true → unmarked (putIn off n ns r) ≡ true
-unmarked-put off n ns r u v =
-    unmarked-append (take off r) (ns ++ drop (off + n) r) (unmarked-take off r v) (unmarked-append ns (drop (off + n) r) u (unmarked-drop (off + n) r v))
+-- It is unmarked, where both are.
+pub unmarked-laid : (off : ℕ) (ns r : List ℕ) → unmarked ns ≡ true → unmarked r ≡ true → unmarked (laidAt off ns r) ≡ true
+unfolding laidAt
+unmarked-laid off ns r u v =
+    unmarked-append (take off r) (ns ++ drop (off + length ns) r) (unmarked-take off r v) (unmarked-append ns (drop (off + length ns) r) u (unmarked-drop (off + length ns) r v))
 
 -- The same list in two ways: before stand xs, then r and then ys; or before stand fs, then os and then bs, where os are the n elements from place off of r on.
 module _ (xs r ys fs os bs : List ℕ) (off n : ℕ) (e : xs ++ (r ++ ys) ≡ fs ++ (os ++ bs)) (f : length fs ≡ length xs + off) (o : length os ≡ n) (w : off + n ≤ length r) where
@@ -133,14 +131,15 @@ module _ (xs r ys fs os bs : List ℕ) (off n : ℕ) (e : xs ++ (r ++ ys) ≡ fs
   middle-is : os ≡ take n (drop off r)
   middle-is = sym (take-at os bs n o) ∙ ap (take n) onward-is ∙ take-append-le n (drop off r) ys (omega (arith, length-drop off r))
 
-  -- So r is made of the elements before os, of os and of those behind.
-  pub rest-put-is : r ≡ putIn off n os r
-  rest-put-is = three-parts off n r ∙ ap (λ (l : List ℕ). take off r ++ (l ++ drop (off + n) r)) (sym middle-is)
+  -- So r has os where it had it,
+  pub rest-laid : r ≡ laidAt off os r
+  rest-laid = three-parts off n r ∙ ap (λ (l : List ℕ). take off r ++ (l ++ drop (off + n) r)) (sym middle-is) ∙ sym (laid-parts off n os r o)
 
-  -- With ns in place of os the whole has them in r.
-  pub whole-put-is : (ns : List ℕ) → fs ++ (ns ++ bs) ≡ xs ++ (putIn off n ns r ++ ys)
-  whole-put-is ns =
+  -- and with as many ns in place of os the whole has them in r.
+  pub whole-laid : (ns : List ℕ) → length ns ≡ n → fs ++ (ns ++ bs) ≡ xs ++ (laidAt off ns r ++ ys)
+  whole-laid ns k =
       ap₂ (λ (a b : List ℕ). a ++ (ns ++ b)) front-is back-is
       ∙ append-assoc xs (take off r) (ns ++ (drop (off + n) r ++ ys))
       ∙ ap (λ (l : List ℕ). xs ++ l)
       (ap (λ (l : List ℕ). take off r ++ l) (sym (append-assoc ns (drop (off + n) r) ys)) ∙ sym (append-assoc (take off r) (ns ++ drop (off + n) r) ys))
+      ∙ ap (λ (l : List ℕ). xs ++ (l ++ ys)) (sym (laid-parts off n ns r k))

@@ -6,22 +6,23 @@ use mathlib.Core.Bool.{Bool, true}
 use mathlib.Core.List.{List, _++_, append-assoc}
 use lib.ListN.{length, take, drop, length-append}
 use Rattle.base.specs.Lists.{Member}
+use Rattle.base.specs.Laid.{laidAt}
+use Rattle.base.proofs.Laid.{length-laid}
 use Rattle.format.specs.Judged.{good}
 use Rattle.format.specs.Lent.{lentForReading, cells, unmarked}
 use Rattle.format.specs.Home.{Home, firstCountPlace}
 use Rattle.format.specs.Count.{unsettled}
 use Rattle.format.specs.Block.{blocksFit}
 use Rattle.format.specs.Span.{joined}
-use Rattle.format.specs.Sector.{Sector, openingLength}
+use Rattle.format.specs.Sector.{Sector}
 use Rattle.format.specs.Accept.{Placed, placedRest, placedStart, placedFrom, Accepted, spansOf, accept}
 use Rattle.format.specs.Burst.{SameBut}
-use Rattle.format.proofs.Sector.ReadSector.{restOf}
 use Rattle.format.proofs.Spans.SpanAgrees.{clean-behind}
 use Rattle.format.proofs.Track.AcceptedSpans.{Track, acceptedOf, accepted-track}
 use Rattle.format.proofs.Track.Pairs.{accepted-pair, lent-length}
 use Rattle.format.proofs.Track.Sectors.{Distinct, numbersOf, numbers-distinct}
 use Rattle.format.proofs.Bursts.AlteredSpan.{StandsIn, stands-rest, stands-fit, stands-in, alteredSpans}
-use Rattle.format.proofs.Bursts.AlteredBytes.{CellParts, cell-parts, part-unmarked, putIn, length-put, unmarked-put, rest-put-is, whole-put-is}
+use Rattle.format.proofs.Bursts.AlteredBytes.{CellParts, cell-parts, part-unmarked, unmarked-laid, rest-laid, whole-laid}
 
 -- The sector y of the accepted track t with marks m; u has other bytes from place q on, n of them, which stand from off on behind the count's opening of y.
 pub record AlteredSector (t m u : List ℕ) (a : Accepted) (y : Placed) (q off n : ℕ) : Type 0 where
@@ -34,8 +35,8 @@ pub record AlteredSector (t m u : List ℕ) (a : Accepted) (y : Placed) (q off n
   pub distinct : Distinct (numbersOf (placedFrom (firstCountPlace (a .home .place)) spans sectors))
   -- What follows the count's opening of y on u.
   pub rest : List ℕ
-  pub rest-is : rest ≡ putIn off n (take n (drop q u)) (placedRest y)
-  pub rest-was : placedRest y ≡ putIn off n (take n (drop q t)) (placedRest y)
+  pub rest-is : rest ≡ laidAt off (take n (drop q u)) (placedRest y)
+  pub rest-was : placedRest y ≡ laidAt off (take n (drop q t)) (placedRest y)
   pub old-size : length (take n (drop q t)) ≡ n
   pub new-size : length (take n (drop q u)) ≡ n
   pub unmarked-rest : unmarked rest ≡ true
@@ -63,7 +64,7 @@ module _ (t m u : List ℕ) (a : Accepted) (e : accept t m ≡ good a) (y : Plac
 
   -- and what does on u.
   abbrev z : List ℕ
-  z = putIn off n (take n (drop q u)) r
+  z = laidAt off (take n (drop q u)) r
 
   -- The cells before sector 0's count,
   abbrev head : List ℕ
@@ -124,7 +125,7 @@ module _ (t m u : List ℕ) (a : Accepted) (e : accept t m ≡ good a) (y : Plac
 
     -- The cells of u are those of t with z in the place of r.
     cells-new : cells u m ≡ xs ++ (z ++ ys)
-    cells-new = parts .new-is ∙ whole-put-is xs r ys (parts .front) (take n (drop q t)) (parts .back) off n parts-same front-long (parts .old-size) altered-inside (take n (drop q u))
+    cells-new = parts .new-is ∙ whole-laid xs r ys (parts .front) (take n (drop q t)) (parts .back) off n parts-same front-long (parts .old-size) altered-inside (take n (drop q u)) (parts .new-size)
 
     -- So the sector y is altered on u.
     altered-of : AlteredSector t m u a y q off n
@@ -138,11 +139,11 @@ module _ (t m u : List ℕ) (a : Accepted) (e : accept t m ≡ good a) (y : Plac
           distinct = subst (λ (b : Accepted). Distinct (numbersOf (b .sectors))) (sym is) (numbers-distinct (cells t m) a (accepted-pair t m a e .1));
           rest = z;
           rest-is = refl;
-          rest-was = rest-put-is xs r ys (parts .front) (take n (drop q t)) (parts .back) off n parts-same front-long (parts .old-size) altered-inside;
+          rest-was = rest-laid xs r ys (parts .front) (take n (drop q t)) (parts .back) off n parts-same front-long (parts .old-size) altered-inside;
           old-size = parts .old-size;
           new-size = parts .new-size;
-          unmarked-rest = unmarked-put off n (take n (drop q u)) r bytes rest-unmarked;
-          length-rest = length-put off n (take n (drop q u)) r (parts .new-size) altered-inside;
+          unmarked-rest = unmarked-laid off (take n (drop q u)) r bytes rest-unmarked;
+          length-rest = length-laid off (take n (drop q u)) r (omega (arith, parts .new-size, altered-inside));
           lent = parts .lent;
           cells-are = cells-new ∙ append-assoc head (stands .front) (z ++ ys) ∙ ap (λ (l : List ℕ). head ++ l) (sym (stands .after-is));
           stands = stands;

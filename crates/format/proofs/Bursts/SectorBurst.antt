@@ -23,12 +23,13 @@ use Rattle.format.specs.Accept.{Placed, placedRest, placedStart, Accepte
 use Rattle.format.proofs.Sector.Sizes.{gap-least, rest-least}
 use Rattle.format.proofs.Sector.BlocksJudged.{block-fits}
 use Rattle.format.proofs.Sector.FaultBytes.{tested-fault}
-use Rattle.format.proofs.Sector.ReadSector.{restOf, read-unclosed, span-least, count-make}
+use Rattle.format.proofs.Sector.ReadSector.{read-unclosed, span-least, count-make}
 use Rattle.format.proofs.Sector.OtherRest.{withRest, rest-with-rest, opened-with-rest}
 use Rattle.format.proofs.Faults.AcceptFault.{Reached, restReached, ComesTo, comes-accept, faulty-accept}
 use Rattle.format.proofs.Bursts.Field.{burst-unclosed}
 use Rattle.format.proofs.Bursts.Rest.{number-kept, closed-kept, fields-kept, blocks-kept, key-kept, place-kept, burst-tested}
 use Rattle.format.proofs.Bursts.AlteredSpan.{stands-rest, stands-fit, home-altered, marks-altered, spans-altered}
+use Rattle.format.proofs.Bursts.AlteredBytes.{laid-parts}
 use Rattle.format.proofs.Bursts.AlteredSector.{AlteredSector}
 
 -- A sector y of which bytes behind the count's opening are altered.
@@ -114,8 +115,8 @@ pub count-burst : (t m u : List ℕ) (a : Accepted) (y : Placed) (q : ℕ) (v : 
 unfolding countClosed
 count-burst t m u a y q v b =
     let r : List ℕ = placedRest y in
-    let was : take 11 r ≡ take 11 (drop q t) = ap (take 11) (v .rest-was) ∙ take-at (take 11 (drop q t)) (drop 11 r) 11 (v .old-size) in
-    let is : take 11 (v .rest) ≡ take 11 (drop q u) = ap (take 11) (v .rest-is) ∙ take-at (take 11 (drop q u)) (drop 11 r) 11 (v .new-size) in
+    let was : take 11 r ≡ take 11 (drop q t) = ap (take 11) (v .rest-was ∙ laid-parts 0 11 (take 11 (drop q t)) r (v .old-size)) ∙ take-at (take 11 (drop q t)) (drop 11 r) 11 (v .old-size) in
+    let is : take 11 (v .rest) ≡ take 11 (drop q u) = ap (take 11) (v .rest-is ∙ laid-parts 0 11 (take 11 (drop q u)) r (v .new-size)) ∙ take-at (take 11 (drop q u)) (drop 11 r) 11 (v .new-size) in
     burst-unclosed 9 r (v .rest) (ap (closedAfter 9) (stands-rest y (v .rest) (v .stands)) ∙ v .stands .read .count-closed) (rw (was, is) b)
 
 -- The altered bytes are information and check of the key or the data block w.
@@ -140,15 +141,23 @@ module _ (t m u : List ℕ) (a : Accepted) (y : Placed) (q : ℕ) (w : Wanted) (
   abbrev back : List ℕ
   back = drop (off + n) (placedRest y)
 
+  -- In these parts stand what follows the count's opening after
+  rest-new : v .rest ≡ xs ++ (zs ++ back)
+  rest-new = v .rest-is ∙ laid-parts off n zs (placedRest y) (v .new-size)
+
+  -- and what followed it before.
+  rest-old : placedRest y ≡ xs ++ (ys ++ back)
+  rest-old = v .rest-was ∙ laid-parts off n ys (placedRest y) (v .old-size)
+
   -- What does not turn on the altered bytes is as it was.
   still : {X : Type 0} (f : List ℕ → X) → f (xs ++ (zs ++ back)) ≡ f (xs ++ (ys ++ back)) → f (v .rest) ≡ f (placedRest y)
-  still f e = ap f (v .rest-is) ∙ e ∙ ap f (sym (v .rest-was))
+  still f e = ap f rest-new ∙ e ∙ ap f (sym rest-old)
 
   -- After a burst the block has a wrong check, and all else is read as before.
   pub block-burst : (lengthOf w (placedRest y) ≡ 0 → ⊥) → Burst 16 (coefficients ys) (coefficients zs) → BlockRead t m u a y q off n v w
   block-burst some b =
       let r : List ℕ = placedRest y in
-      let e : xs ++ (ys ++ back) ≡ r = sym (v .rest-was) in
+      let e : xs ++ (ys ++ back) ≡ r = sym rest-old in
       let within : off ≤ length r = omega (arith, block-fits w (v .stands .last) r (stands-fit y (v .rest) (v .stands))) in
       let o : length xs ≡ offsetOf w (xs ++ (ys ++ back)) + 6 = rw e (length-take-le off r within) in
       let s : length ys ≡ lengthOf w (xs ++ (ys ++ back)) + 2 = rw e (v .old-size) in
@@ -164,5 +173,5 @@ module _ (t m u : List ℕ) (a : Accepted) (y : Placed) (q : ℕ) (w : Wanted) (
         fits = λ last f. still (blocksFit last) (blocks-kept w xs ys zs back o s k last nz) ∙ f;
         key = λ d. still testKey (key-kept w xs ys zs back o s k d) ∙ test-was t m u a y q off n v theKey;
         place = still (offsetOf w) (place-kept w xs ys zs back o s k .0);
-        wrong = ap (testOf w) (v .rest-is) ∙ burst-tested w xs ys zs back o s k nz (ap (testOf w) e ∙ test-was t m u a y q off n v w) b;
+        wrong = ap (testOf w) rest-new ∙ burst-tested w xs ys zs back o s k nz (ap (testOf w) e ∙ test-was t m u a y q off n v w) b;
       }

@@ -6,12 +6,11 @@ use mathlib.Core.Bool.{Bool, true, false}
 use mathlib.Core.List.{List}
 use lib.ListN.{length, drop}
 use lib.Dec.{eqb}
-use Rattle.format.specs.Answer.{Answer, keyWrong, dataWrong, spanTooShort}
-use Rattle.format.specs.Fault.{Fault, Tested, sound, faulty}
+use Rattle.format.specs.Answer.{spanTooShort}
+use Rattle.format.specs.Fault.{Fault, sound, faulty}
 use Rattle.format.specs.Judged.{good, refused, requireSound, answerOf}
-use Rattle.format.specs.Count.{keyLength, dataLength}
-use Rattle.format.specs.Block.{keyOffset, dataOffset, blocksFit, testBlock, testKey, testData, keyInfo, dataInfo}
-use Rattle.format.specs.Blocks.{Wanted, theKey, theData, offsetOf, lengthOf, infoOf, testOf, wrongAt, Part, partAt, partIn, blocksAt, wantedPart, judgeFit}
+use Rattle.format.specs.Block.{blocksFit, testBlock, testKey, testData}
+use Rattle.format.specs.Blocks.{Wanted, theKey, theData, offsetOf, lengthOf, testOf, wrongAt, Part, partAt, partIn, blocksAt, wantedPart, judgeFit}
 use Rattle.format.proofs.Base.Judged.{good-inj, require-good, require-zero, sound-good, sound-zero}
 use Rattle.format.proofs.Sector.Sizes.{gap-least}
 use Rattle.format.proofs.Sector.BlockEnd.{key-in-offset, data-in-end, end-in-span}
