@@ -80,12 +80,12 @@ altered-length i bs =
     omega (arith, coefficients-length bs, coefficients-length (alterBit i bs))
 
 -- Where a byte stands, a byte stands after a bit is altered.
-byte-kept : (i j : ℕ) (bs : List ℕ) → getD bs j 0 < 256 → getD (alterBit i bs) j 0 < 256
+altered-byte-lt : (i j : ℕ) (bs : List ℕ) → getD bs j 0 < 256 → getD (alterBit i bs) j 0 < 256
 unfolding alterBit
-byte-kept i j [] h = h
-byte-kept i zero (b ∷ bs) h =
+altered-byte-lt i j [] h = h
+altered-byte-lt i zero (b ∷ bs) h =
     cases (ltb i 8) (λ e. rw e (xor-lt 8 b (2 ^ (7 - i)) h (pow-lt {i = 7 - i} {j = 8} (omega arith)))) (λ e. rw e h)
-byte-kept i (suc j) (b ∷ bs) h = cases (ltb i 8) (λ e. rw e h) (λ e. rw e (byte-kept (i - 8) j bs h))
+altered-byte-lt i (suc j) (b ∷ bs) h = cases (ltb i 8) (λ e. rw e h) (λ e. rw e (altered-byte-lt (i - 8) j bs h))
 
 -- A bit is not what it is altered to.
 bit-altered : (x : ℕ) → x ≡ bitXor x 1 → ⊥
@@ -166,7 +166,7 @@ two-bits-pass bs i h =
     let low : ℕ = getD after (suc n) 0 in
     let long : length before ≡ n + 2 = length-append bs (checkBytes bs) in
     let whole : cs ++ high ∷ low ∷ [] ≡ after = last-two n after (altered-length (i + 16) (alterBit i before) ∙ altered-length i before ∙ long) in
-    let byte : (j : ℕ) → getD before j 0 < 256 → getD after j 0 < 256 = λ j k. byte-kept (i + 16) j (alterBit i before) (byte-kept i j before k) in
+    let byte : (j : ℕ) → getD before j 0 < 256 → getD after j 0 < 256 = λ j k. altered-byte-lt (i + 16) j (alterBit i before) (altered-byte-lt i j before k) in
     let hh : high < 256 = byte n (omega (arith, getD-append-seam bs (c / 256) (c % 256 ∷ []) 0, check-lt bs)) in
     let hl : low < 256 = byte (suc n) (rw (← (add-one n), getD-append-add bs (checkBytes bs) 1 0) (omega arith)) in
     let bits : checkedBits cs high low ≡ alterAt (i + 16) (alterAt i (coefficients before)) = ap coefficients whole ∙ coefficients-altered (i + 16) (alterBit i before) ∙ ap (alterAt (i + 16)) (coefficients-altered i before) in

@@ -24,7 +24,7 @@ sums-digits [] ys d e = tt
 sums-digits (x ∷ xs) [] d e = tt
 sums-digits (x ∷ xs) (y ∷ ys) d e = (xor-lt 1 x y (d .0) (e .0), sums-digits xs ys (d .1) (e .1))
 
--- What stands at a place of the sum of as many coefficients.
+-- What stands at place i of the sum of two lists of one length.
 sums-at : (xs ys : List ℕ) (i : ℕ) → length xs ≡ length ys → getD (sums xs ys) i 0 ≡ bitXor (getD xs i 0) (getD ys i 0)
 unfolding sums
 sums-at [] [] i e = refl

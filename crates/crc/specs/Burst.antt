@@ -34,7 +34,7 @@ pub record TwoApart (k i : ℕ) (xs ys : List ℕ) : Type 0 where
   pub second : DiffersAt xs ys (i + k)
   pub nowhere-else : (j : ℕ) → DiffersAt xs ys j → (j ≡ i) ⊎ (j ≡ i + k)
 
--- The bytes with their bit at place i altered, the first byte's top bit being at place 0.
+-- The bytes with their bit at place i altered, the first byte's top bit being at place 0; past their end nothing is altered.
 unfoldable pub alterBit : ℕ → List ℕ → List ℕ
 alterBit i [] = []
 alterBit i (b ∷ bs) = let r = alterBit (i - 8) bs in pick (ltb i 8) (bitXor b (2 ^ (7 - i)) ∷ bs) (b ∷ r)

@@ -162,7 +162,7 @@ twoRules =
 
 -- Altered bits. Information and check of number 1's home with the low bits of cylinder and head altered, which are sixteen apart; that the check is that of the altered information; that this is the home of
 -- cylinder 101 and head 6.
--- Then Accept's answer for the short track as it is; with one of those two bits of home altered, and with both: home passes, and 8 is for sector 0's count. One bit of a count, of a key and of data
+-- Then Accept's answer, but for the test of L, for the short track as it is; with one of those two bits of home altered, 311 from index, the lowest of byte 38, and with both: home passes, and 8 is for sector 0's count. One bit of a count, of a key and of data
 -- altered; sixteen in data and check; two bits sixteen apart in key and check and in data, which is accepted; two fifteen and seventeen apart in data.
 unfoldable pub bursts : List Case
 bursts =

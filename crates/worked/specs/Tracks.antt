@@ -113,7 +113,7 @@ unfoldable pub alteredAt : List ℕ → List ℕ → List ℕ
 alteredAt [] c = c
 alteredAt (i ∷ is) c = alteredAt is (alterBit i c)
 
--- Number, second number and place of Accept's answer for that track with these bits altered.
+-- Number, second number and place of the answer that Accept's judgement of the cells gives for the short track `threeByHand` with these bits altered; bits count from index, eight to a byte.
 unfoldable pub answerAltered : List ℕ → List ℕ
 answerAltered is = let a : Answer = answerOf (acceptCells (alteredAt is threeByHand)) in a .number ∷ a .fault ∷ a .place ∷ []
 

@@ -17,7 +17,8 @@ type Tried = BTreeMap<Kind, usize>;
 
 /// Says how many there were, even if the test passes.
 fn tell(name: &str, tried: &Tried) {
-    writeln!(std::io::stderr(), "{name}: {tried:?}").expect("standard error takes a line");
+    let all: usize = tried.values().sum();
+    writeln!(std::io::stderr(), "{name}: {all}, {tried:?}").expect("standard error takes a line");
 }
 
 /// Says it, and demands so many of each kind: for each pattern and field as many as the field has bits, less the pattern's width, and one.
@@ -138,7 +139,7 @@ fn bursts_on_the_worked_track() {
     finish("bursts on the worked track", tried, wanted);
 }
 
-/// Demands Accept's refusal after every burst of up to sixteen bits, at each start, in the first field of this kind on the worked track; so many there are.
+/// Demands Accept's refusal after every burst of up to sixteen bits, at each start, in the first field of this kind on the worked track, and `wanted` of them.
 fn every_burst_on(kind: Kind, length: usize, wanted: usize) {
     let (track, patterns) = (worked(), patterns(16, 0));
     assert_eq!(patterns.len(), 1 << 15);

@@ -16,7 +16,7 @@ pub enum Kind {
     Data,
 }
 
-/// Information bytes on a track and the two check bytes behind them.
+/// A field of a track: its information bytes and the two check bytes behind them; the closing byte is left out, as no burst reaches it.
 #[derive(Clone, Copy, Debug)]
 pub struct Field {
     pub kind: Kind,
