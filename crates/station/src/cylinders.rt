@@ -3,9 +3,9 @@ ghost use mathlib.Core.Path.{_≡_};
 ghost use lib.ListN.{length};
 ghost use Rattle.base.specs.Laid.{laidOver};
 ghost use Rattle.cylinder.specs.Writing.{writeCylinder, fileBytes};
-ghost use Rattle.cylinder.specs.Reading.{readCylinder, cylinderRead};
-ghost use Rattle.cylinder_file.specs.Reading.{room};
-ghost use Rattle.cylinder_file.specs.Writing.{lent};
+ghost use Rattle.cylinder.specs.Reading.{cylinderRead};
+ghost use Rattle.cylinder_reader.specs.Reading.{readInto};
+ghost use Rattle.cylinder_writer.specs.Writing.{lent};
 ghost use Rattle.station.specs.Packed.{packedReading, packedWriting};
 use crate::packed_number;
 
@@ -17,12 +17,12 @@ pub extern "C" fn iso3561_cylinder_read(
     marks: &mut [u8],
     lengths: &mut [u16],
 ) -> u64
-    ensures result { λ r. ⌜ r ≡ packedReading (readCylinder (now (file .entry)) (room (length (now (tracks .entry))) (length (now (marks .entry))) (length (now (lengths .entry))))) ⌝ }
-    ensures tracks { λ _. ⌜ now (tracks .exit) ≡ laidOver (cylinderRead (readCylinder (now (file .entry)) (room (length (now (tracks .entry))) (length (now (marks .entry))) (length (now (lengths .entry))))) .tracks) (now (tracks .entry)) ⌝ }
-    ensures marks { λ _. ⌜ now (marks .exit) ≡ laidOver (cylinderRead (readCylinder (now (file .entry)) (room (length (now (tracks .entry))) (length (now (marks .entry))) (length (now (lengths .entry))))) .marks) (now (marks .entry)) ⌝ }
-    ensures lengths { λ _. ⌜ now (lengths .exit) ≡ laidOver (cylinderRead (readCylinder (now (file .entry)) (room (length (now (tracks .entry))) (length (now (marks .entry))) (length (now (lengths .entry))))) .lengths) (now (lengths .entry)) ⌝ }
+    ensures result { λ r. ⌜ r ≡ packedReading (readInto (now (file .entry)) (now (tracks .entry)) (now (marks .entry)) (now (lengths .entry))) ⌝ }
+    ensures tracks { λ _. ⌜ now (tracks .exit) ≡ laidOver (cylinderRead (readInto (now (file .entry)) (now (tracks .entry)) (now (marks .entry)) (now (lengths .entry))) .tracks) (now (tracks .entry)) ⌝ }
+    ensures marks { λ _. ⌜ now (marks .exit) ≡ laidOver (cylinderRead (readInto (now (file .entry)) (now (tracks .entry)) (now (marks .entry)) (now (lengths .entry))) .marks) (now (marks .entry)) ⌝ }
+    ensures lengths { λ _. ⌜ now (lengths .exit) ≡ laidOver (cylinderRead (readInto (now (file .entry)) (now (tracks .entry)) (now (marks .entry)) (now (lengths .entry))) .lengths) (now (lengths .entry)) ⌝ }
 {
-    let x = cylinder_file::read_cylinder(file, tracks, marks, lengths);
+    let x = cylinder_reader::read_cylinder(file, tracks, marks, lengths);
     packed_number(x.answer, x.count)
 }
 
@@ -37,6 +37,6 @@ pub extern "C" fn iso3561_cylinder_write(
     ensures result { λ r. ⌜ r ≡ packedWriting (writeCylinder (lent (now (tracks .entry)) (now (marks .entry)) (now (lengths .entry))) (length (now (file .entry)))) ⌝ }
     ensures bytes { λ _. ⌜ now (file .exit) ≡ laidOver (fileBytes (writeCylinder (lent (now (tracks .entry)) (now (marks .entry)) (now (lengths .entry))) (length (now (file .entry))))) (now (file .entry)) ⌝ }
 {
-    let x = cylinder_file::write_cylinder(tracks, marks, lengths, file);
+    let x = cylinder_writer::write_cylinder(tracks, marks, lengths, file);
     packed_number(x.answer, x.size)
 }

@@ -1,4 +1,0 @@
--- What the proofs of the functions share.
-pub mod Marks
-pub mod Pieces
-pub mod Outcome

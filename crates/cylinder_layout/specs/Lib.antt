@@ -1,0 +1,2 @@
+-- The bits of a byte, for marks that are written eight at a time.
+pub mod Bits
