@@ -4,7 +4,7 @@ ghost use mathlib.Core.Bool.{true};
 ghost use Prim.Native.Nat.{_≤_};
 ghost use lib.ListN.{length};
 ghost use Rattle.cylinder.specs.Cylinder.{lengthsRight};
-ghost use Rattle.cylinder.specs.File.{tableEnd};
+ghost use Rattle.cylinder.specs.File.{headerLength, tableEnd};
 ghost use Rattle.cylinder.specs.Reading.{trackCountIn, lengthIn, offsetDue, headerRight, offsetsRight, sparesClear, judgeFile};
 ghost use Rattle.cylinder_reader.specs.Reading.{judgedFile};
 use crate::table;
@@ -13,7 +13,7 @@ use cylinder_layout::HEADER;
 
 // Whether the number of tracks is 1 to 10 and the zero field is zero.
 fn header_right(file: &[u8]) -> bool
-    requires { ⌜ 4 ≤ length (now file) ⌝ }
+    requires { ⌜ headerLength ≤ length (now file) ⌝ }
     ensures { λ r. ⌜ r ≡ headerRight (now (file .entry)) ⌝ }
 {
     if !cylinder_layout::track_count_right(table::two_bytes_at(file, 0)) {
@@ -102,7 +102,7 @@ pub(crate) enum FileJudged {
 // The table and all that follows it, of a file whose header is right.
 fn judge_table(file: &[u8], n: usize) -> FileJudged
     requires { ⌜ n ≡ trackCountIn (now file) ⌝ }
-    requires { ⌜ (4 ≤ length (now file)) × (headerRight (now file) ≡ true) ⌝ }
+    requires { ⌜ (headerLength ≤ length (now file)) × (headerRight (now file) ≡ true) ⌝ }
     ensures { λ r. ⌜ judgedFile r ≡ judgeFile (now (file .entry)) ⌝ }
 {
     if file.len() < HEADER + n * ENTRY {

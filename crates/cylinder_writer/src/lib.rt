@@ -9,7 +9,7 @@ ghost use Rattle.format.specs.Answer.{asAnswer};
 ghost use Rattle.format.specs.Judged.{answerOf};
 ghost use Rattle.cylinder.specs.Cylinder.{lengthOf, startOf, lengthsRight, cylinderLent};
 ghost use Rattle.cylinder.specs.Packed.{packed};
-ghost use Rattle.cylinder.specs.File.{twoBytes, fourBytes, storedSize, offsetOf, header, table, storedTracks, cylinderFile};
+ghost use Rattle.cylinder.specs.File.{twoBytes, fourBytes, headerLength, entryLength, storedSize, offsetOf, header, table, storedTracks, cylinderFile};
 ghost use Rattle.cylinder.specs.Writing.{writeCylinder, fileBytes};
 ghost use Rattle.cylinder_writer.specs.Writing.{lent};
 use cylinder_layout::ENTRY;
@@ -86,7 +86,7 @@ fn file_length(lengths: &[u16]) -> usize
 
 // Writes the header of n tracks over the front of out.
 fn put_header(n: usize, out: &mut [u8])
-    requires { ⌜ (n ≤ 10) × (4 ≤ length (now out)) ⌝ }
+    requires { ⌜ (n ≤ 10) × (headerLength ≤ length (now out)) ⌝ }
     ensures { λ _. ⌜ now (out .exit) ≡ laidOver (header n) (now (out .entry)) ⌝ }
 {
     out[0] = (n / 256) as u8;
@@ -97,7 +97,7 @@ fn put_header(n: usize, out: &mut [u8])
 
 // Writes a table entry over the front of out.
 fn put_entry(l: usize, offset: usize, out: &mut [u8])
-    requires { ⌜ (l ≤ 65535) × (offset ≤ 0xFFFFFFFF) × (6 ≤ length (now out)) ⌝ }
+    requires { ⌜ (l ≤ 65535) × (offset ≤ 0xFFFFFFFF) × (entryLength ≤ length (now out)) ⌝ }
     ensures { λ _. ⌜ now (out .exit) ≡ laidOver (twoBytes l ++ fourBytes offset) (now (out .entry)) ⌝ }
 {
     out[0] = (l / 256) as u8;
@@ -110,7 +110,7 @@ fn put_entry(l: usize, offset: usize, out: &mut [u8])
 
 // Writes the table over the front of out.
 fn put_table(lengths: &[u16], out: &mut [u8])
-    requires { ⌜ (length (now lengths) ≤ 10) × (length (now lengths) * 6 ≤ length (now out)) ⌝ }
+    requires { ⌜ (length (now lengths) ≤ 10) × (length (now lengths) * entryLength ≤ length (now out)) ⌝ }
     ensures { λ _. ⌜ now (out .exit) ≡ laidOver (table (now (lengths .entry)) (length (now (lengths .entry)))) (now (out .entry)) ⌝ }
 {
     let mut offset = HEADER + lengths.len() * ENTRY;

@@ -12,9 +12,9 @@ use Rattle.cylinder.proofs.Sound.{offset-next}
 use Rattle.cylinder_writer.proofs.file_length.Statement.{statement}
 use Rattle.cylinder_writer.proofs.file_length.Tie as tie
 
--- What holds at each turn: track i would start at the end.
+-- What holds at each turn: track i would start at the end; the table ends at 64 or before, a track takes at most 65,535 bytes and 8,192 for its marks.
 abbrev Inv-loop : tie.InvT-loop
-Inv-loop lengths end₀ i₀ end i = (i ≤ length lengths) × (end ≡ offsetOf (length lengths) (lengthOf lengths) i) × (end ≤ 64 + i * 73727)
+Inv-loop lengths end₀ i₀ end i = (i ≤ length lengths) × (end ≡ offsetOf (length lengths) (lengthOf lengths) i) × (end ≤ 64 + i * (65535 + 8192))
 
 -- What falls with each turn: the number of tracks left.
 abbrev μ-loop : tie.MeasureT-loop

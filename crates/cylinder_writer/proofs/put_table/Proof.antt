@@ -18,13 +18,13 @@ use borrow.Author.Needs.{needs}
 use Rattle.cylinder_writer.proofs.put_table.Statement.{statement}
 use Rattle.cylinder_writer.proofs.put_table.Tie as tie
 
--- What holds at each turn: the first i entries lie over the front, and the offset is that of track i.
+-- What holds at each turn: the first i entries lie over the front, and the offset is that of track i; the table ends at 64 or before, a track takes at most 65,535 bytes and 8,192 for its marks.
 abbrev Inv-loop : tie.InvT-loop
 Inv-loop lengths out₀ offset₀ p₀ i₀ out offset p i =
     (i ≤ length lengths)
     × (p ≡ i * 6)
     × (offset ≡ offsetOf (length lengths) (lengthOf lengths) i)
-    × (offset ≤ 64 + i * 73727)
+    × (offset ≤ 64 + i * (65535 + 8192))
     × (length out ≡ length out₀)
     × (out ≡ laidOver (joinTo (entry (length lengths) (lengthOf lengths)) i) out₀)
 

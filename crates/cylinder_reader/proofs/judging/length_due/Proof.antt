@@ -8,9 +8,9 @@ use Rattle.cylinder.proofs.Sound.{due-first, due-next}
 use Rattle.cylinder_reader.proofs.judging.length_due.Statement.{statement}
 use Rattle.cylinder_reader.proofs.judging.length_due.Tie as tie
 
--- What holds at each turn: track i is due at the offset.
+-- What holds at each turn: track i is due at the offset; the table ends at 64 or before, a track takes at most 65,535 bytes and 8,192 for its marks.
 abbrev Inv-loop : tie.InvT-loop
-Inv-loop file n offset₀ i₀ offset i = (i ≤ n) × (offset ≡ offsetDue file i) × (offset ≤ 64 + i * 73727)
+Inv-loop file n offset₀ i₀ offset i = (i ≤ n) × (offset ≡ offsetDue file i) × (offset ≤ 64 + i * (65535 + 8192))
 
 -- What falls with each turn: the number of tracks left.
 abbrev μ-loop : tie.MeasureT-loop

@@ -14,10 +14,10 @@ use Rattle.cylinder.proofs.Sound.{due-first, due-next}
 use Rattle.cylinder_reader.proofs.judging.offsets_right.Statement.{statement}
 use Rattle.cylinder_reader.proofs.judging.offsets_right.Tie as tie
 
--- What holds at each turn: `due` is the offset that is due for track i, and the tracks before it have theirs.
+-- What holds at each turn: `due` is the offset that is due for track i, and the tracks before it have theirs; the table ends at 64 or before, a track takes at most 65,535 bytes and 8,192 for its marks.
 abbrev Inv-loop : tie.InvT-loop
 Inv-loop file n due₀ i₀ due i =
-    (i ≤ n) × (due ≡ offsetDue file i) × (due ≤ 64 + i * 73727)
+    (i ≤ n) × (due ≡ offsetDue file i) × (due ≤ 64 + i * (65535 + 8192))
     × (allTo (λ k. eqb (offsetIn file k) (offsetDue file k)) i ≡ true)
 
 -- What falls with each turn: the number of tracks left.

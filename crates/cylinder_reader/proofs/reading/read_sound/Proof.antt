@@ -1,11 +1,12 @@
 -- `read_sound` meets its contract: 24 before anything is written, then the tracks, their marks and their Ls.
-use mathlib.Core.Path.{refl, sym, _∙_}
+use mathlib.Core.Path.{_≡_, refl, sym, _∙_}
+use mathlib.Core.Bool.{true, false}
 use borrow.Author.Needs.{needs}
 use borrow.Author.Tests.{not-true, not-false}
 use lib.ListN.{length}
 use Rattle.base.proofs.Filling.{over-nothing}
 use Rattle.base.proofs.Indexed.{length-list}
-use Rattle.cylinder.specs.Reading.{lengthIn}
+use Rattle.cylinder.specs.Reading.{lengthIn, roomFor}
 use Rattle.cylinder.proofs.Sound.{file-sound}
 use Rattle.cylinder_reader.specs.Reading.{room}
 use Rattle.cylinder_reader.proofs.Pieces.{count-is, table-in, room-enough}
@@ -33,8 +34,9 @@ returns : tie.Need-returns
 returns c =
     let s = c .before .before .before .before .before .before .before .before in
     let a = s .args in
-    let e = sym (c .before .before .room-for .ensures) ∙ not-true _ (c .before .if1 .taken) in
-    let q = read-short (a .file .now) (room (length (a .tracks .now)) (length (a .marks .now)) (length (a .lengths .now))) (s .pre) e in
+    let r = room (length (a .tracks .now)) (length (a .marks .now)) (length (a .lengths .now)) in
+    let e : roomFor (a .file .now) r ≡ false = sym (c .before .before .room-for .ensures) ∙ not-true _ (c .before .if1 .taken) in
+    let q = read-short (a .file .now) r (s .pre) e in
     rw q (c .buffer-too-short .ensures, (refl, (sym (over-nothing (a .tracks .now)), (sym (over-nothing (a .marks .now)), sym (over-nothing (a .lengths .now))))))
 
 fill-tracks-requires : tie.Need-fill-tracks-requires
@@ -44,8 +46,9 @@ fill-tracks-requires c κs =
     let f = a .file .now in
     let n = c .before .before .before .two-bytes-at in
     let e = n .ensures .0 ∙ count-is f in
-    let d = sym (c .before .before .room-for .ensures) ∙ not-false _ (c .before .if1 .left) in
-    let h = room-enough f (n .result) (room (length (a .tracks .now)) (length (a .marks .now)) (length (a .lengths .now))) e d in
+    let r = room (length (a .tracks .now)) (length (a .marks .now)) (length (a .lengths .now)) in
+    let d : roomFor f r ≡ true = sym (c .before .before .room-for .ensures) ∙ not-false _ (c .before .if1 .left) in
+    let h = room-enough f (n .result) r e d in
     (e, (s .pre, h .0))
 
 fill-marks-requires : tie.Need-fill-marks-requires
@@ -55,8 +58,9 @@ fill-marks-requires c κs =
     let f = a .file .now in
     let n = c .before .before .before .before .before .before .before .two-bytes-at in
     let e = n .ensures .0 ∙ count-is f in
-    let d = sym (c .before .before .before .before .before .before .room-for .ensures) ∙ not-false _ (c .before .before .before .before .before .if1 .left) in
-    let h = room-enough f (n .result) (room (length (a .tracks .now)) (length (a .marks .now)) (length (a .lengths .now))) e d in
+    let r = room (length (a .tracks .now)) (length (a .marks .now)) (length (a .lengths .now)) in
+    let d : roomFor f r ≡ true = sym (c .before .before .before .before .before .before .room-for .ensures) ∙ not-false _ (c .before .before .before .before .before .if1 .left) in
+    let h = room-enough f (n .result) r e d in
     (e, (s .pre, h .1))
 
 fill-lengths-requires : tie.Need-fill-lengths-requires
@@ -66,8 +70,9 @@ fill-lengths-requires c κs =
     let f = a .file .now in
     let n = c .before .before .before .before .before .before .before .before .before .before .before .two-bytes-at in
     let e = n .ensures .0 ∙ count-is f in
-    let d = sym (c .before .before .before .before .before .before .before .before .before .before .room-for .ensures) ∙ not-false _ (c .before .before .before .before .before .before .before .before .before .if1 .left) in
-    let h = room-enough f (n .result) (room (length (a .tracks .now)) (length (a .marks .now)) (length (a .lengths .now))) e d in
+    let r = room (length (a .tracks .now)) (length (a .marks .now)) (length (a .lengths .now)) in
+    let d : roomFor f r ≡ true = sym (c .before .before .before .before .before .before .before .before .before .before .room-for .ensures) ∙ not-false _ (c .before .before .before .before .before .before .before .before .before .if1 .left) in
+    let h = room-enough f (n .result) r e d in
     let t = table-in f (n .result) e (s .pre) in
     (t .0, t .1, h .2)
 
@@ -90,8 +95,9 @@ returns-2 c =
     let f = a .file .now in
     let n = c .before .before .before .before .before .before .before .before .before .before .before .before .before .before .before .two-bytes-at in
     let e = n .ensures .0 ∙ count-is f in
-    let d = sym (c .before .before .before .before .before .before .before .before .before .before .before .before .before .before .room-for .ensures) ∙ not-false _ (c .before .before .before .before .before .before .before .before .before .before .before .before .before .if1 .left) in
-    let q = read-good f (room (length (a .tracks .now)) (length (a .marks .now)) (length (a .lengths .now))) (s .pre) d in
+    let r = room (length (a .tracks .now)) (length (a .marks .now)) (length (a .lengths .now)) in
+    let d : roomFor f r ≡ true = sym (c .before .before .before .before .before .before .before .before .before .before .before .before .before .before .room-for .ensures) ∙ not-false _ (c .before .before .before .before .before .before .before .before .before .before .before .before .before .if1 .left) in
+    let q = read-good f r (s .pre) d in
     let t = c .before .before .before .before .before .before .before .before .before .before .before .fill-tracks .ensures in
     let m = c .before .before .before .before .before .before .before .fill-marks .ensures in
     rw (q, ← e) (c .done .ensures, (sym (length-list (lengthIn f) (n .result)), (t, (m, c .before .before .before .fill-lengths .ensures))))
