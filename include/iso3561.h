@@ -292,9 +292,9 @@ uint64_t iso3561_to_cells(const uint8_t *track, size_t track_length,
  * list, as many as iso3561_track_count tells; all behind these stays as it is.
  * Answers, in this order: 20, where the file has fewer than four bytes. 18, where its number of tracks is not 1 to 10
  * or a zero byte is not zero. 20, where the table is cut short. 1, where an L is out of range. 19, where an offset is
- * not the one that the Ls before it make. 20, where the file is longer or shorter than its Ls make it. 21, where a
- * spare bit is set. 24, where tracks or marks are shorter than the sum, or the list shorter than the number of tracks;
- * never with ISO3561_MOST_TRACKS * ISO3561_LONGEST bytes each and ISO3561_MOST_TRACKS Ls. */
+ * not the one that the number of tracks and the Ls before it make. 20, where the file is longer or shorter than its
+ * Ls make it. 21, where a spare bit is set. 24, where tracks or marks are shorter than the sum, or the list shorter
+ * than the number of tracks; never with ISO3561_MOST_TRACKS * ISO3561_LONGEST bytes each and ISO3561_MOST_TRACKS Ls. */
 uint64_t iso3561_cylinder_read(const uint8_t *file, size_t file_length,
                                uint8_t *tracks, size_t tracks_length,
                                uint8_t *marks, size_t marks_length,

@@ -2,7 +2,7 @@
 //!
 //! The file is a header with the number of tracks, a table with the length and the offset of each, and then the tracks.
 //! A track is stored as its bytes and, right after them, its marks, eight to a byte.
-//! In memory the tracks stand one after the other in one slice, their marks in another, and the lengths in a list.
+//! In memory one slice has the bytes of all tracks, one after the other, a second one their marks, and a list the lengths.
 //! All numbers of the file have their most significant byte first.
 
 use crate::answer::*;
