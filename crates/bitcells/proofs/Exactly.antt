@@ -13,7 +13,7 @@ use Rattle.format.specs.Lent.{lentForWriting, lentForReading}
 use Rattle.format.specs.Written.{Pair}
 use Rattle.base.proofs.Tests.{cases, false-true, and-both}
 use Rattle.format.proofs.Base.Marks.{mark-at}
-use Rattle.format.proofs.Track.Pairs.{lent-marks}
+use Rattle.format.proofs.Track.Pairs.{lent-marks, lent-legal}
 use Rattle.pattern.specs.Pattern.{recordable, legalPattern}
 use Rattle.bitcells.specs.Each.{eachPattern, eachByte, judgeEach}
 use Rattle.bitcells.specs.FromCells.{lentFrom, readPair, fromCells}
@@ -21,7 +21,6 @@ use Rattle.bitcells.specs.ToCells.{lentTo, writtenCells, toCells}
 use Rattle.bitcells.specs.Legal.{FirstIllegal, FirstOther}
 use Rattle.bitcells.proofs.Each.{length-pattern, getD-pattern, length-each, getD-each}
 use Rattle.bitcells.proofs.FirstFault.{fails-each, each-fails}
-use Rattle.bitcells.proofs.RoundTrip.{lent-legal}
 
 -- A refusal by 17 comes from the places, not from what is lent, and not from what is given where all is well.
 module _ {A : Type 0} (b : Bool) (j : Judged (Unit {0})) (v : A) (p : ℕ) where

@@ -17,7 +17,7 @@ use Rattle.format.specs.Written.{Pair}
 use Rattle.format.proofs.Base.Judged.{good-inj, then-good, require-good}
 use Rattle.format.proofs.Base.Marks.{mark-at, marks-at}
 use Rattle.base.proofs.Tests.{cases, and-both, and-make}
-use Rattle.format.proofs.Track.Pairs.{lent-marks}
+use Rattle.format.proofs.Track.Pairs.{lent-marks, lent-legal}
 use Rattle.pattern.specs.Pattern.{firstCells, secondCells, clocksFor, recordable, clocksIn, dataIn, legalPattern, markIn, cellBytes}
 use Rattle.bitcells.specs.Each.{eachPattern, eachByte, judgeEach}
 use Rattle.bitcells.specs.FromCells.{lentFrom, readPair, fromCells}
@@ -27,11 +27,6 @@ use Rattle.pattern.proofs.Inverse.{data-written, first-read, second-read, data-
 use Rattle.bitcells.proofs.Each.{length-pattern, getD-pattern, length-each, getD-each, pattern-written, length-written}
 use Rattle.bitcells.proofs.FirstFault.{each-holds, holds-each}
 use Rattle.pattern.proofs.Legal.{legal-written, mark-written, legal-clocks, legal-marked, mark-legal}
-
--- The marks of a pair that is lent within the rule are legal.
-pub lent-legal : (t m : List ℕ) → lentForReading t m ≡ true → marksLegal m ≡ true
-unfolding lentForReading
-lent-legal t m e = and-both (lentForWriting (length t) (length m)) (marksLegal m) e .1
 
 -- What each byte and its mark give is a list that is known place by place.
 each-is : (f : ℕ → ℕ → ℕ) (t m r : List ℕ) → length m ≡ length t → length r ≡ length t

@@ -9,10 +9,10 @@ use lib.Seq.{take-all}
 use borrow.Author.Tests.{eq-eqb}
 use Rattle.base.specs.Indexed.{sumTo, joinTo, listTo}
 use Rattle.base.proofs.Indexed.{sum-same, all-holds, each-holds, length-join, join-part, join-cut, length-list, getD-list}
-use Rattle.base.proofs.Tests.{and-both, and-make}
+use Rattle.base.proofs.Tests.{and-make}
 use Rattle.format.specs.Lent.{lengthRight, marksLegal, lentForWriting, lentForReading}
 use Rattle.format.proofs.Base.Marks.{mark-at, marks-at}
-use Rattle.format.proofs.Track.Pairs.{lent-marks, lent-length}
+use Rattle.format.proofs.Track.Pairs.{lent-marks, lent-legal, lent-length}
 use Rattle.cylinder.specs.Cylinder.{Cylinder, trackCount, lengthOf, startOf, partOf, trackOf, trackMarksOf, cylinderOf, lengthsRight, cylinderLent}
 use Rattle.cylinder.proofs.Sizes.{cylinder-lent, length-part}
 use Rattle.cylinder.proofs.Parts.{join-keeps, part-keeps}
@@ -79,11 +79,6 @@ module _ (n : ℕ) (l : ℕ → ℕ) where
       (and-make (eq-eqb _ _ (slice-listed t long))
       (and-make (eq-eqb _ _ (slice-listed m marked))
       (marks-at (joinTo m n) (join-keeps (λ (z : ℕ). z < 2) m n (λ k h. mark-at (m k) (legal k h)))))))
-
--- The marks of a pair that is lent for reading within the rule are legal.
-lent-legal : (t m : List ℕ) → lentForReading t m ≡ true → marksLegal m ≡ true
-unfolding lentForReading
-lent-legal t m e = and-both (lentForWriting (length t) (length m)) (marksLegal m) e .1
 
 -- Any n tracks that are lent with their marks for reading within the rule make a cylinder of n tracks that is, and its tracks and marks are these.
 pub tracks-cylinder : (n : ℕ) (t m : ℕ → List ℕ) → ((k : ℕ) → k < n → lentForReading (t k) (m k) ≡ true)

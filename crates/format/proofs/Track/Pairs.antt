@@ -166,6 +166,11 @@ lent-marks t m e =
     let a = and-both (lentForWriting (length t) (length m)) (marksLegal m) e in
     eqb-true (length m) (length t) (and-both (lengthRight (length t)) (eqb (length m) (length t)) (a .0) .1)
 
+-- Its marks are legal.
+pub lent-legal : (t m : List ℕ) → lentForReading t m ≡ true → marksLegal m ≡ true
+unfolding lentForReading
+lent-legal t m e = and-both (lentForWriting (length t) (length m)) (marksLegal m) e .1
+
 -- The cells of a pair that is lent within the rule have its length, which is right.
 pub lent-length : (t m : List ℕ) → lentForReading t m ≡ true → (length (cells t m) ≡ length t) × (lengthRight (length t) ≡ true)
 unfolding lentForReading lentForWriting
