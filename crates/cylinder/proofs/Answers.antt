@@ -5,36 +5,16 @@ use Prim.Native.Nat.{ℕ, _≤_, _<_}
 use mathlib.Core.List.{List}
 use lib.ListN.{length}
 use lib.Dec.{leb, eqb}
-use Rattle.base.specs.Indexed.{sumTo}
 use Rattle.format.specs.Answer.{Answer, done, lentWrong, headerWrong, offsetWrong, fileLengthWrong, spareBitsSet, bufferTooShort}
 use Rattle.format.specs.Judged.{Judged, good, require, then, answerOf}
-use Rattle.cylinder.specs.Cylinder.{Cylinder, trackCount, lengthOf, startOf, lengthsRight, cylinderLent}
+use Rattle.cylinder.specs.Cylinder.{Cylinder, trackCount, lengthsRight}
 use Rattle.cylinder.specs.File.{headerLength, tableEnd, cylinderFile}
 use Rattle.cylinder.specs.Writing.{writeCylinder}
-use Rattle.cylinder.specs.Reading.{trackCountIn, zeroField, lengthIn, offsetIn, offsetDue, packedIn, headerRight, offsetsRight, sparesClear, judgeFile, cylinderIn, Room, roomFor, readCylinder}
-use Rattle.cylinder.specs.Answers.{OneToTen, NotOneToTen, LengthsAllowed, LengthForbidden, MarksBinary, MarkOther, WrongTrackCount, WrongLent, ShortBuffer, Writable, WriteMeans}
-use Rattle.cylinder.specs.Answers.{SparesZero, SpareSet, CutHeader, WrongHeader, CutTable, WholeTable, WrongLength, WrongOffset, RightOffsets, WrongEnd, WrongSpare, ShortRoom, Readable, ReadMeans}
-use Rattle.cylinder.proofs.Decides.{Decides, decides-le, decides-eq, decides-and, decides-all, decides-count, decides-lengths, decides-marks, decides-spares, decided, row}
+use Rattle.cylinder.specs.Reading.{trackCountIn, lengthIn, offsetDue, offsetsRight, sparesClear, judgeFile, cylinderIn, Room, roomFor, readCylinder}
+use Rattle.cylinder.specs.Answers.{WrongTrackCount, WrongLent, ShortBuffer, Writable, WriteMeans, CutHeader, WrongHeader, CutTable, WholeTable, WrongLength, WrongOffset, RightOffsets, WrongEnd, WrongSpare, ShortRoom, Readable, ReadMeans}
+use Rattle.cylinder.proofs.Decides.{Decides, decides-le, decides-eq, decides-count, decides-lengths, decides-lent, decides-header, decides-offsets, decides-clear, decides-room, decided, row}
 
 module _ (c : Cylinder) (room : ℕ) where
-  -- The test of what is lent decides whether all of it is within the rule or a part of it is not.
-  decides-lent : Decides (cylinderLent c)
-      (LengthsAllowed (lengthOf (c .lengths)) (trackCount c)
-      × ((length (c .tracks) ≡ startOf (c .lengths) (trackCount c))
-      × ((length (c .marks) ≡ startOf (c .lengths) (trackCount c))
-      × MarksBinary (c .marks))))
-      (LengthForbidden (lengthOf (c .lengths)) (trackCount c)
-      ⊎ ((length (c .tracks) ≡ startOf (c .lengths) (trackCount c) → ⊥)
-      ⊎ ((length (c .marks) ≡ startOf (c .lengths) (trackCount c) → ⊥)
-      ⊎ MarkOther (c .marks))))
-  unfolding cylinderLent
-  decides-lent =
-      let n : ℕ = startOf (c .lengths) (trackCount c) in
-      decides-and (decides-lengths (lengthOf (c .lengths)) (trackCount c))
-      (decides-and (decides-eq (length (c .tracks)) n)
-      (decides-and (decides-eq (length (c .marks)) n)
-      (decides-marks (c .marks))))
-
   -- The test of the buffer decides whether it takes the file.
   decides-buffer : Decides (leb (length (cylinderFile c)) room) (length (cylinderFile c) ≤ room) (room < length (cylinderFile c))
   decides-buffer = decides-le (length (cylinderFile c)) room
@@ -45,7 +25,7 @@ module _ (c : Cylinder) (room : ℕ) where
   write-means =
       let m : Judged (List ℕ) → Type 0 = λ j. WriteMeans c room (answerOf j .number) in
       decided m (decides-count (trackCount c)) headerWrong _ (λ q. q)
-      (λ n. decided m decides-lent lentWrong _ (λ q. (n, q))
+      (λ n. decided m (decides-lent c) lentWrong _ (λ q. (n, q))
       (λ l. decided m decides-buffer bufferTooShort (good (cylinderFile c)) (λ q. ((n, l), q))
       (λ b. ((n, l), b))))
 
@@ -61,17 +41,17 @@ module _ (c : Cylinder) (room : ℕ) where
   -- Writing gives 1 exactly where the number of tracks is right, and an L, the length of a slice or a mark is out of rule.
   pub write-1 : (answerOf (writeCylinder c room) ≡ lentWrong) ↔ WrongLent c
   unfolding writeCylinder
-  write-1 = (write-says lentWrong, λ q. rw (decides-count (trackCount c) .passed (q .0), decides-lent .failed (q .1)))
+  write-1 = (write-says lentWrong, λ q. rw (decides-count (trackCount c) .passed (q .0), decides-lent c .failed (q .1)))
 
   -- Writing gives 24 exactly where all that is lent is right and the buffer is shorter than the file.
   pub write-24 : (answerOf (writeCylinder c room) ≡ bufferTooShort) ↔ ShortBuffer c room
   unfolding writeCylinder
-  write-24 = (write-says bufferTooShort, λ q. rw (decides-count (trackCount c) .passed (q .0 .0), decides-lent .passed (q .0 .1), decides-buffer .failed (q .1)))
+  write-24 = (write-says bufferTooShort, λ q. rw (decides-count (trackCount c) .passed (q .0 .0), decides-lent c .passed (q .0 .1), decides-buffer .failed (q .1)))
 
   -- Writing gives 0 exactly where all that is lent is right and the buffer takes the file.
   pub write-0 : (answerOf (writeCylinder c room) ≡ done) ↔ Writable c room
   unfolding writeCylinder
-  write-0 = (write-says done, λ q. rw (decides-count (trackCount c) .passed (q .0 .0), decides-lent .passed (q .0 .1), decides-buffer .passed (q .1)))
+  write-0 = (write-says done, λ q. rw (decides-count (trackCount c) .passed (q .0 .0), decides-lent c .passed (q .0 .1), decides-buffer .passed (q .1)))
 
   -- Writing gives any number exactly where the text gives it, and never a number that the text does not give.
   pub write-exactly : (n : ℕ) → (answerOf (writeCylinder c room) .number ≡ n) ↔ WriteMeans c room n
@@ -86,39 +66,13 @@ module _ (f : List ℕ) (r : Room) where
   decides-head : Decides (leb headerLength (length f)) (headerLength ≤ length f) (length f < headerLength)
   decides-head = decides-le headerLength (length f)
 
-  -- The test of the header decides whether it is right.
-  decides-header : Decides (headerRight f) (OneToTen (trackCountIn f) × (zeroField f ≡ 0)) (NotOneToTen (trackCountIn f) ⊎ (zeroField f ≡ 0 → ⊥))
-  unfolding headerRight
-  decides-header = decides-and (decides-count (trackCountIn f)) (decides-eq (zeroField f) 0)
-
   -- The second test of the length decides whether the table is whole.
   decides-table : Decides (leb (tableEnd (trackCountIn f)) (length f)) (tableEnd (trackCountIn f) ≤ length f) (length f < tableEnd (trackCountIn f))
   decides-table = decides-le (tableEnd (trackCountIn f)) (length f)
 
-  -- The test of the offsets decides whether all are those that are due or one is not.
-  decides-offsets : Decides (offsetsRight f) ((k : ℕ) → k < trackCountIn f → offsetIn f k ≡ offsetDue f k) ((k : ℕ) × (k < trackCountIn f) × (offsetIn f k ≡ offsetDue f k → ⊥))
-  unfolding offsetsRight
-  decides-offsets = decides-all (trackCountIn f) (λ k. decides-eq (offsetIn f k) (offsetDue f k))
-
   -- The third test of the length decides whether it is the one that is due.
   decides-end : Decides (eqb (length f) (offsetDue f (trackCountIn f))) (length f ≡ offsetDue f (trackCountIn f)) (length f ≡ offsetDue f (trackCountIn f) → ⊥)
   decides-end = decides-eq (length f) (offsetDue f (trackCountIn f))
-
-  -- The test of the spare bits decides whether all are zero or one of a track is not.
-  decides-clear : Decides (sparesClear f)
-      ((k : ℕ) → k < trackCountIn f → SparesZero (lengthIn f k) (packedIn f k))
-      ((k : ℕ) × (k < trackCountIn f) × SpareSet (lengthIn f k) (packedIn f k))
-  unfolding sparesClear
-  decides-clear = decides-all (trackCountIn f) (λ k. decides-spares (lengthIn f k) (packedIn f k))
-
-  -- The test of what is lent for writing decides whether all three are long enough or one is not.
-  decides-room : Decides (roomFor f r)
-      ((sumTo (lengthIn f) (trackCountIn f) ≤ r .tracks) × ((sumTo (lengthIn f) (trackCountIn f) ≤ r .marks) × (trackCountIn f ≤ r .lengths)))
-      ((r .tracks < sumTo (lengthIn f) (trackCountIn f)) ⊎ ((r .marks < sumTo (lengthIn f) (trackCountIn f)) ⊎ (r .lengths < trackCountIn f)))
-  unfolding roomFor
-  decides-room =
-      let n : ℕ = sumTo (lengthIn f) (trackCountIn f) in
-      decides-and (decides-le n (r .tracks)) (decides-and (decides-le n (r .marks)) (decides-le (trackCountIn f) (r .lengths)))
 
   -- Every answer of reading says what the text gives for it.
   read-means : ReadMeans f r (answerOf (readCylinder f r) .number)
@@ -127,13 +81,13 @@ module _ (f : List ℕ) (r : Room) where
       let k : Unit {0} → Judged Cylinder = λ _. require (roomFor f r) bufferTooShort (good (cylinderIn f)) in
       let m : Judged (Unit {0}) → Type 0 = λ j. ReadMeans f r (answerOf (then j k) .number) in
       decided m decides-head fileLengthWrong _ (λ q. inl q)
-      (λ h. decided m decides-header headerWrong _ (λ q. (h, q))
+      (λ h. decided m (decides-header f) headerWrong _ (λ q. (h, q))
       (λ n. decided m decides-table fileLengthWrong _ (λ q. inr (inl ((h, n), q)))
       (λ t. decided m (decides-lengths (lengthIn f) (trackCountIn f)) lentWrong _ (λ q. (((h, n), t), q))
-      (λ l. decided m decides-offsets offsetWrong _ (λ q. ((((h, n), t), l), q))
+      (λ l. decided m (decides-offsets f) offsetWrong _ (λ q. ((((h, n), t), l), q))
       (λ o. decided m decides-end fileLengthWrong _ (λ q. inr (inr (((((h, n), t), l), o), q)))
-      (λ e. decided m decides-clear spareBitsSet _ (λ q. ((((((h, n), t), l), o), e), q))
-      (λ s. decided (λ (j : Judged Cylinder). ReadMeans f r (answerOf j .number)) decides-room bufferTooShort (good (cylinderIn f)) (λ q. (((((((h, n), t), l), o), e), s), q))
+      (λ e. decided m (decides-clear f) spareBitsSet _ (λ q. ((((((h, n), t), l), o), e), q))
+      (λ s. decided (λ (j : Judged Cylinder). ReadMeans f r (answerOf j .number)) (decides-room f r) bufferTooShort (good (cylinderIn f)) (λ q. (((((((h, n), t), l), o), e), s), q))
       (λ b. (((((((h, n), t), l), o), e), s), b)))))))))
 
   -- An answer of reading says what the text gives for its number.
@@ -143,7 +97,7 @@ module _ (f : List ℕ) (r : Room) where
   -- Reading gives 18 exactly where the header is whole, and the number of tracks is not 1 to 10 or the zero field not zero.
   pub read-18 : (answerOf (readCylinder f r) ≡ headerWrong) ↔ WrongHeader f
   unfolding readCylinder judgeFile
-  read-18 = (read-says headerWrong, λ q. rw (decides-head .passed (q .0), decides-header .failed (q .1)))
+  read-18 = (read-says headerWrong, λ q. rw (decides-head .passed (q .0), decides-header f .failed (q .1)))
 
   -- A file whose table is whole is judged by its Ls and what follows them alone.
   table-judged : WholeTable f → judgeFile f
@@ -153,7 +107,7 @@ module _ (f : List ℕ) (r : Room) where
       (require (sparesClear f) spareBitsSet
       (good tt))))
   unfolding judgeFile
-  table-judged q = rw (decides-head .passed (q .0 .0), decides-header .passed (q .0 .1), decides-table .passed (q .1))
+  table-judged q = rw (decides-head .passed (q .0 .0), decides-header f .passed (q .0 .1), decides-table .passed (q .1))
 
   -- Reading gives 1 exactly where the table is whole, and an L in it is out of range.
   pub read-1 : (answerOf (readCylinder f r) ≡ lentWrong) ↔ WrongLength f
@@ -163,11 +117,11 @@ module _ (f : List ℕ) (r : Room) where
   -- Reading gives 19 exactly where the Ls are right, and an offset is not the one that is due.
   pub read-19 : (answerOf (readCylinder f r) ≡ offsetWrong) ↔ WrongOffset f
   unfolding readCylinder
-  read-19 = (read-says offsetWrong, λ q. rw (table-judged (q .0 .0), decides-lengths (lengthIn f) (trackCountIn f) .passed (q .0 .1), decides-offsets .failed (q .1)))
+  read-19 = (read-says offsetWrong, λ q. rw (table-judged (q .0 .0), decides-lengths (lengthIn f) (trackCountIn f) .passed (q .0 .1), decides-offsets f .failed (q .1)))
 
   -- A file whose offsets are right is judged by its length and its spare bits alone.
   offsets-judged : RightOffsets f → judgeFile f ≡ require (eqb (length f) (offsetDue f (trackCountIn f))) fileLengthWrong (require (sparesClear f) spareBitsSet (good tt))
-  offsets-judged q = rw (table-judged (q .0 .0), decides-lengths (lengthIn f) (trackCountIn f) .passed (q .0 .1), decides-offsets .passed (q .1))
+  offsets-judged q = rw (table-judged (q .0 .0), decides-lengths (lengthIn f) (trackCountIn f) .passed (q .0 .1), decides-offsets f .passed (q .1))
 
   -- A file of another length than is due is answered by 20.
   wrong-end : WrongEnd f → answerOf (readCylinder f r) ≡ fileLengthWrong
@@ -182,24 +136,24 @@ module _ (f : List ℕ) (r : Room) where
     ⊎-elim
         (λ q. rw (decides-head .failed q))
         (⊎-elim
-        (λ q. rw (decides-head .passed (q .0 .0), decides-header .passed (q .0 .1), decides-table .failed (q .1)))
+        (λ q. rw (decides-head .passed (q .0 .0), decides-header f .passed (q .0 .1), decides-table .failed (q .1)))
         wrong-end),
   )
 
   -- Reading gives 21 exactly where the length of the file is right, and a spare bit is set.
   pub read-21 : (answerOf (readCylinder f r) ≡ spareBitsSet) ↔ WrongSpare f
   unfolding readCylinder
-  read-21 = (read-says spareBitsSet, λ q. rw (offsets-judged (q .0 .0), decides-end .passed (q .0 .1), decides-clear .failed (q .1)))
+  read-21 = (read-says spareBitsSet, λ q. rw (offsets-judged (q .0 .0), decides-end .passed (q .0 .1), decides-clear f .failed (q .1)))
 
   -- Reading gives 24 exactly where the file is right, and one of the three that are lent for writing is too short.
   pub read-24 : (answerOf (readCylinder f r) ≡ bufferTooShort) ↔ ShortRoom f r
   unfolding readCylinder
-  read-24 = (read-says bufferTooShort, λ q. rw (offsets-judged (q .0 .0 .0), decides-end .passed (q .0 .0 .1), decides-clear .passed (q .0 .1), decides-room .failed (q .1)))
+  read-24 = (read-says bufferTooShort, λ q. rw (offsets-judged (q .0 .0 .0), decides-end .passed (q .0 .0 .1), decides-clear f .passed (q .0 .1), decides-room f r .failed (q .1)))
 
   -- Reading gives 0 exactly where the file is right, and each of the three that are lent for writing is long enough.
   pub read-0 : (answerOf (readCylinder f r) ≡ done) ↔ Readable f r
   unfolding readCylinder
-  read-0 = (read-says done, λ q. rw (offsets-judged (q .0 .0 .0), decides-end .passed (q .0 .0 .1), decides-clear .passed (q .0 .1), decides-room .passed (q .1)))
+  read-0 = (read-says done, λ q. rw (offsets-judged (q .0 .0 .0), decides-end .passed (q .0 .0 .1), decides-clear f .passed (q .0 .1), decides-room f r .passed (q .1)))
 
   -- Reading gives any number exactly where the text gives it, and never a number that the text does not give.
   pub read-exactly : (n : ℕ) → (answerOf (readCylinder f r) .number ≡ n) ↔ ReadMeans f r n

@@ -5,9 +5,10 @@ use Prim.Native.Nat.{ℕ, zero, suc, _+_, _-_, _*_, _≤_, _<_}
 use native.Mathlib.Omega.{arith}
 use mathlib.Core.Bool.{Bool, true, false, _&&_}
 use mathlib.Core.List.{List, [], _∷_}
+use lib.ListN.{length}
 use lib.Dec.{leb, ltb, eqb}
 use borrow.Author.Tests.{leb-true, leb-false, eqb-true, eqb-false, ltb-false}
-use Rattle.base.specs.Indexed.{allTo}
+use Rattle.base.specs.Indexed.{sumTo, allTo}
 use Rattle.base.specs.Pick.{pick}
 use Rattle.base.proofs.Tests.{cases, false-true, and-both, and-make, and-right}
 use Rattle.base.proofs.Indexed.{all-holds}
@@ -16,8 +17,9 @@ use Rattle.format.specs.Judged.{Judged, refused, require, answerOf}
 use Rattle.format.specs.Layout.{shortestTrack, longestTrack}
 use Rattle.format.specs.Lent.{lengthRight, marksLegal}
 use Rattle.format.proofs.Base.Marks.{mark-at}
-use Rattle.cylinder.specs.Cylinder.{trackCountRight, lengthsRight}
+use Rattle.cylinder.specs.Cylinder.{Cylinder, trackCount, lengthOf, startOf, trackCountRight, lengthsRight, cylinderLent}
 use Rattle.cylinder.specs.Packed.{packedSize, markAt, spareClear}
+use Rattle.cylinder.specs.Reading.{trackCountIn, zeroField, lengthIn, offsetIn, offsetDue, packedIn, headerRight, offsetsRight, sparesClear, Room, roomFor}
 use Rattle.cylinder.specs.Answers.{OneToTen, NotOneToTen, LengthsAllowed, LengthForbidden, MarksBinary, MarkOther, SparesZero, SpareSet}
 
 -- The test b holds exactly where P does, and fails exactly where Q does.
@@ -106,6 +108,50 @@ decides-spares l bs =
     ap (markAt bs) (sym q) ∙ eqb-true (markAt bs (l + (i - l))) 0 a)
     (λ e. let q = one-failed (λ j. eqb (markAt bs (l + j)) 0) (packedSize l * 8 - l) e in (l + q .0, omega arith, omega (arith, q .1), eqb-false _ 0 (q .2)))
     (λ x y. y .3 (x (y .0) (y .1) (y .2)))
+
+-- The test of what is lent decides whether all of it is within the rule or a part of it is not.
+pub decides-lent : (c : Cylinder) → Decides (cylinderLent c)
+    (LengthsAllowed (lengthOf (c .lengths)) (trackCount c)
+    × ((length (c .tracks) ≡ startOf (c .lengths) (trackCount c))
+    × ((length (c .marks) ≡ startOf (c .lengths) (trackCount c))
+    × MarksBinary (c .marks))))
+    (LengthForbidden (lengthOf (c .lengths)) (trackCount c)
+    ⊎ ((length (c .tracks) ≡ startOf (c .lengths) (trackCount c) → ⊥)
+    ⊎ ((length (c .marks) ≡ startOf (c .lengths) (trackCount c) → ⊥)
+    ⊎ MarkOther (c .marks))))
+unfolding cylinderLent
+decides-lent c =
+    let n : ℕ = startOf (c .lengths) (trackCount c) in
+    decides-and (decides-lengths (lengthOf (c .lengths)) (trackCount c))
+    (decides-and (decides-eq (length (c .tracks)) n)
+    (decides-and (decides-eq (length (c .marks)) n)
+    (decides-marks (c .marks))))
+
+-- The test of the header decides whether it is right.
+pub decides-header : (f : List ℕ) → Decides (headerRight f) (OneToTen (trackCountIn f) × (zeroField f ≡ 0)) (NotOneToTen (trackCountIn f) ⊎ (zeroField f ≡ 0 → ⊥))
+unfolding headerRight
+decides-header f = decides-and (decides-count (trackCountIn f)) (decides-eq (zeroField f) 0)
+
+-- The test of the offsets decides whether all are those that are due or one is not.
+pub decides-offsets : (f : List ℕ) → Decides (offsetsRight f) ((k : ℕ) → k < trackCountIn f → offsetIn f k ≡ offsetDue f k) ((k : ℕ) × (k < trackCountIn f) × (offsetIn f k ≡ offsetDue f k → ⊥))
+unfolding offsetsRight
+decides-offsets f = decides-all (trackCountIn f) (λ k. decides-eq (offsetIn f k) (offsetDue f k))
+
+-- The test of the spare bits of a file decides whether all are zero or one of a track is not.
+pub decides-clear : (f : List ℕ) → Decides (sparesClear f)
+    ((k : ℕ) → k < trackCountIn f → SparesZero (lengthIn f k) (packedIn f k))
+    ((k : ℕ) × (k < trackCountIn f) × SpareSet (lengthIn f k) (packedIn f k))
+unfolding sparesClear
+decides-clear f = decides-all (trackCountIn f) (λ k. decides-spares (lengthIn f k) (packedIn f k))
+
+-- The test of what is lent for writing decides whether all three are long enough or one is not.
+pub decides-room : (f : List ℕ) (r : Room) → Decides (roomFor f r)
+    ((sumTo (lengthIn f) (trackCountIn f) ≤ r .tracks) × ((sumTo (lengthIn f) (trackCountIn f) ≤ r .marks) × (trackCountIn f ≤ r .lengths)))
+    ((r .tracks < sumTo (lengthIn f) (trackCountIn f)) ⊎ ((r .marks < sumTo (lengthIn f) (trackCountIn f)) ⊎ (r .lengths < trackCountIn f)))
+unfolding roomFor
+decides-room f r =
+    let n : ℕ = sumTo (lengthIn f) (trackCountIn f) in
+    decides-and (decides-le n (r .tracks)) (decides-and (decides-le n (r .marks)) (decides-le (trackCountIn f) (r .lengths)))
 
 -- Of an outcome behind a test a fact may be shown twice: of the refusal where the test fails, and of what comes after it where it holds.
 pub decided : {A : Type 0} (M : Judged A → Type 0) {b : Bool} {P Q : Type 0} → Decides b P Q → (a : Answer) (j : Judged A) → (Q → M (refused a)) → (P → M j) → M (require b a j)

@@ -7,20 +7,18 @@ use mathlib.Core.Bool.{true}
 use mathlib.Core.List.{List, [], _∷_, _++_}
 use lib.ListN.{length, take, drop, getD, take-append-drop, length-drop}
 use lib.Seq.{take-all, take-add, drop-drop, drop-cons}
-use lib.Dec.{eqb}
-use borrow.Author.Tests.{eqb-true}
 use Rattle.base.specs.Indexed.{sumTo, joinTo}
 use Rattle.base.proofs.Indexed.{sum-same, sum-const, all-holds, join-same, join-cut, length-list}
 use Rattle.base.proofs.Lists.{part-length}
-use Rattle.base.proofs.Tests.{and-both}
 use Rattle.crc.specs.Halves.{AllBytes}
 use Rattle.crc.proofs.Bytes.{all-bytes, byte-at}
 use Rattle.format.specs.Lent.{lengthRight}
 use Rattle.cylinder.specs.Cylinder.{trackCount, lengthOf, trackOf, trackMarksOf, trackCountRight, lengthsRight, cylinderLent}
 use Rattle.cylinder.specs.Packed.{packedSize, packed, spareClear}
 use Rattle.cylinder.specs.File.{twoBytes, fourBytes, headerLength, entryLength, tableEnd, storedSize, offsetOf, header, entry, table, storedTrack, storedTracks, cylinderFile}
-use Rattle.cylinder.specs.Reading.{twoBytesAt, fourBytesAt, trackCountIn, zeroField, lengthIn, offsetIn, offsetDue, trackIn, packedIn, marksIn, headerRight, offsetsRight, sparesClear, cylinderIn}
-use Rattle.cylinder.proofs.Sound.{SoundFile, piece-within}
+use Rattle.cylinder.specs.Reading.{twoBytesAt, fourBytesAt, trackCountIn, zeroField, lengthIn, offsetIn, offsetDue, trackIn, packedIn, marksIn, sparesClear, cylinderIn}
+use Rattle.cylinder.proofs.Decides.{decides-count, decides-header, decides-offsets}
+use Rattle.cylinder.proofs.Sound.{SoundFile, header-count, piece-within}
 use Rattle.cylinder.proofs.Packed.{length-unpacked, packed-unpacked, unpacked-legal}
 use Rattle.cylinder.proofs.Parts.{part-keeps, part-joined}
 use Rattle.cylinder.proofs.CylinderParts.{listed-length, part-listed, listed-lent}
@@ -95,24 +93,23 @@ module _ (f : List ℕ) (s : SoundFile f) where
 
   -- Its tracks are as many as the rule allows.
   pub count-held : trackCountRight (trackCount (cylinderIn f)) ≡ true
-  unfolding headerRight
-  count-held = ap trackCountRight held-count ∙ and-both (trackCountRight (trackCountIn f)) (eqb (zeroField f) 0) (s .header-right) .0
+  count-held = ap trackCountRight held-count ∙ decides-count (trackCountIn f) .passed (header-count f (s .header-right))
 
   module _ (bytes : AllBytes f) where
     -- Its header is that of the file.
     header-back : header (trackCountIn f) ≡ take headerLength f
-    unfolding header headerRight trackCountIn zeroField twoBytes
+    unfolding header trackCountIn zeroField twoBytes
     header-back =
-        let z = eqb-true (zeroField f) 0 (and-both (trackCountRight (trackCountIn f)) (eqb (zeroField f) 0) (s .header-right) .1) in
+        let z = decides-header f .pass (s .header-right) .1 in
         let h = s .header-there in
         ap₂ (λ (x y : List ℕ). x ++ y) (two-back f 0 bytes (omega arith)) (ap twoBytes (sym z) ∙ two-back f 2 bytes (omega arith))
         ∙ sym (part-joined 0 2 2 f)
 
     -- The offset of each track is the one in the file.
     offset-held : (k : ℕ) → k < trackCountIn f → offsetOf (trackCountIn f) (lengthOf (cylinderIn f .lengths)) k ≡ offsetIn f k
-    unfolding offsetOf offsetsRight offsetDue
+    unfolding offsetOf offsetDue
     offset-held k h =
-        let o = eqb-true (offsetIn f k) (offsetDue f k) (all-holds (λ j. eqb (offsetIn f j) (offsetDue f j)) (trackCountIn f) k (s .offsets-right) h) in
+        let o = decides-offsets f .pass (s .offsets-right) k h in
         let t = sum-same (λ j. storedSize (lengthOf (cylinderIn f .lengths) j)) (λ j. storedSize (lengthIn f j)) k (λ j l. ap storedSize (held-length j (omega arith))) in
         omega (arith, o, t)
 

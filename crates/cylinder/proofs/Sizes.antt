@@ -2,19 +2,17 @@
 use mathlib.Core.Path.{_≡_, refl, ap, _∙_}
 use Prim.Native.Nat.{ℕ, _+_, _*_, _≤_, _<_}
 use native.Mathlib.Omega.{arith}
-use mathlib.Core.Bool.{true, _&&_}
+use mathlib.Core.Bool.{true}
 use mathlib.Core.List.{List, _++_}
 use lib.ListN.{length, length-append}
-use lib.Dec.{eqb}
-use borrow.Author.Tests.{eqb-true}
 use Rattle.base.specs.Indexed.{sumTo, joinTo}
 use Rattle.base.proofs.Lists.{part-length}
-use Rattle.base.proofs.Tests.{and-both}
 use Rattle.base.proofs.Indexed.{sum-within, sum-same, length-join, sum-const}
 use Rattle.format.specs.Lent.{marksLegal}
 use Rattle.cylinder.specs.Cylinder.{Cylinder, trackCount, lengthOf, startOf, partOf, trackOf, trackMarksOf, lengthsRight, cylinderLent}
 use Rattle.cylinder.specs.Packed.{packed}
 use Rattle.cylinder.specs.File.{twoBytes, fourBytes, headerLength, entryLength, tableEnd, storedSize, offsetOf, header, entry, table, storedTrack, storedTracks, cylinderFile}
+use Rattle.cylinder.proofs.Decides.{decides-lengths, decides-marks, decides-lent}
 use Rattle.cylinder.proofs.Packed.{length-packed}
 
 -- The header has four bytes.
@@ -56,17 +54,13 @@ pub record Lent (c : Cylinder) : Type 0 where
 
 -- A cylinder that is lent within the rule keeps these four.
 pub cylinder-lent : (c : Cylinder) → cylinderLent c ≡ true → Lent c
-unfolding cylinderLent
 cylinder-lent c e =
-    let n : ℕ = startOf (c .lengths) (trackCount c) in
-    let a = and-both (lengthsRight (lengthOf (c .lengths)) (trackCount c)) (eqb (length (c .tracks)) n && (eqb (length (c .marks)) n && marksLegal (c .marks))) e in
-    let b = and-both (eqb (length (c .tracks)) n) (eqb (length (c .marks)) n && marksLegal (c .marks)) (a .1) in
-    let d = and-both (eqb (length (c .marks)) n) (marksLegal (c .marks)) (b .1) in
+    let a = decides-lent c .pass e in
     record {
-      lengths-right = a .0;
-      tracks-long = eqb-true _ _ (b .0);
-      marks-long = eqb-true _ _ (d .0);
-      marks-legal = d .1;
+      lengths-right = decides-lengths (lengthOf (c .lengths)) (trackCount c) .passed (a .0);
+      tracks-long = a .1 .0;
+      marks-long = a .1 .1 .0;
+      marks-legal = decides-marks (c .marks) .passed (a .1 .1 .1);
     }
 
 -- The part of a slice that belongs to a track has its L.

@@ -8,16 +8,15 @@ use lib.ListN.{length}
 use lib.Dec.{leb, eqb}
 use borrow.Author.Tests.{leb-true, le-leb, eqb-true, eq-eqb}
 use Rattle.base.specs.Indexed.{sumTo}
-use Rattle.base.proofs.Tests.{and-both}
 use Rattle.base.proofs.Indexed.{sum-next, sum-within}
 use Rattle.format.specs.Answer.{lentWrong, headerWrong, offsetWrong, fileLengthWrong, spareBitsSet}
 use Rattle.format.specs.Judged.{good}
 use Rattle.format.proofs.Base.Judged.{require-good}
-use Rattle.cylinder.specs.Cylinder.{trackCountRight, lengthsRight}
+use Rattle.cylinder.specs.Cylinder.{lengthsRight}
 use Rattle.cylinder.specs.Packed.{packedSize}
 use Rattle.cylinder.specs.File.{headerLength, tableEnd, storedSize, offsetOf}
-use Rattle.cylinder.specs.Reading.{trackCountIn, zeroField, lengthIn, offsetDue, headerRight, offsetsRight, sparesClear, judgeFile}
-use Rattle.cylinder.proofs.Decides.{decides-count}
+use Rattle.cylinder.specs.Reading.{trackCountIn, lengthIn, offsetDue, headerRight, offsetsRight, sparesClear, judgeFile}
+use Rattle.cylinder.proofs.Decides.{decides-header}
 
 -- Every test of reading holds of the file.
 pub record SoundFile (f : List ℕ) : Type 0 where
@@ -58,8 +57,7 @@ sound-file f s =
 
 -- One to ten tracks are named by a right header.
 pub header-count : (f : List ℕ) → headerRight f ≡ true → (1 ≤ trackCountIn f) × (trackCountIn f ≤ 10)
-unfolding headerRight
-header-count f e = decides-count (trackCountIn f) .pass (and-both (trackCountRight (trackCountIn f)) (eqb (zeroField f) 0) e .0)
+header-count f e = decides-header f .pass e .0
 
 -- Each track is due right behind the one before it.
 pub offset-next : (n : ℕ) (l : ℕ → ℕ) (k : ℕ) → offsetOf n l (k + 1) ≡ offsetOf n l k + l k + packedSize (l k)

@@ -2,19 +2,17 @@
 use mathlib.Core.Path.{_≡_, refl, _∙_}
 use Prim.Native.Nat.{ℕ, _+_, _-_, _≤_, _<_}
 use native.Mathlib.Omega.{arith}
-use mathlib.Core.Bool.{true, _&&_}
+use mathlib.Core.Bool.{true}
 use mathlib.Core.List.{List}
 use lib.ListN.{length, take, drop}
-use lib.Dec.{leb}
-use borrow.Author.Tests.{leb-true}
 use Rattle.base.specs.Indexed.{sumTo}
-use Rattle.base.proofs.Tests.{and-both}
 use Rattle.base.proofs.Indexed.{sum-within}
 use Rattle.base.proofs.Lists.{cut-is}
 use Rattle.format.specs.Judged.{good}
 use Rattle.cylinder.specs.File.{tableEnd}
 use Rattle.cylinder.specs.Packed.{packedSize, unpacked, spareClear}
 use Rattle.cylinder.specs.Reading.{twoBytesAt, trackCountIn, lengthIn, offsetDue, trackIn, packedIn, marksIn, headerRight, judgeFile, Room, roomFor}
+use Rattle.cylinder.proofs.Decides.{decides-room}
 use Rattle.cylinder.proofs.Sound.{file-sound, header-count, piece-within}
 
 -- The first two bytes of a file name the number of its tracks.
@@ -59,9 +57,4 @@ marks-cut f k p l s e h q = rw (packed-cut f k p l s e h q, h)
 -- Where the room is enough each slice is.
 pub room-enough : (f : List ℕ) (n : ℕ) (r : Room) → n ≡ trackCountIn f → roomFor f r ≡ true
     → (sumTo (lengthIn f) n ≤ r .tracks) × (sumTo (lengthIn f) n ≤ r .marks) × (n ≤ r .lengths)
-unfolding roomFor
-room-enough f n r e h =
-    let s = sumTo (lengthIn f) n in
-    let a = and-both (leb s (r .tracks)) (leb s (r .marks) && leb n (r .lengths)) (rw (← e) at h) in
-    let b = and-both (leb s (r .marks)) (leb n (r .lengths)) (a .1) in
-    (leb-true _ _ (a .0), leb-true _ _ (b .0), leb-true _ _ (b .1))
+room-enough f n r e h = let a = decides-room f r .pass h in rw e (a .0, a .1 .0, a .1 .1)
