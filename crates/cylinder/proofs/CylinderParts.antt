@@ -55,7 +55,7 @@ module _ (n : ℕ) (l : ℕ → ℕ) where
 
   module _ (x : ℕ → List ℕ) (long : (k : ℕ) → k < n → length (x k) ≡ l k) where
     -- Lists of these Ls are together as long as the sum of the Ls.
-    length-listed : (k : ℕ) → k ≤ n → length (joinTo x k) ≡ sumTo l k
+    pub length-listed : (k : ℕ) → k ≤ n → length (joinTo x k) ≡ sumTo l k
     length-listed k h = length-join x k ∙ sum-same _ _ k (λ j i. long j (omega arith))
 
     -- All of them are as long as a cylinder of these Ls asks for.

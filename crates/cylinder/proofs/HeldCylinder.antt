@@ -1,5 +1,6 @@
 -- The cylinder that a sound file holds: it is lent within the rule, and its file is the same file.
 use mathlib.Core.Path.{_≡_, sym, ap, ap₂, _∙_}
+use mathlib.Core.Logic.{_↔_}
 use Prim.Native.Nat.{ℕ, suc, _+_, _*_, _/_, _%_, _≤_, _<_}
 use native.Mathlib.Omega.{arith}
 use native.Mathlib.Numerals.{add-one}
@@ -16,12 +17,12 @@ use Rattle.format.specs.Lent.{lengthRight}
 use Rattle.cylinder.specs.Cylinder.{trackCount, lengthOf, trackOf, trackMarksOf, trackCountRight, lengthsRight, cylinderLent}
 use Rattle.cylinder.specs.Packed.{packedSize, packed, spareClear}
 use Rattle.cylinder.specs.File.{twoBytes, fourBytes, headerLength, entryLength, tableEnd, storedSize, offsetOf, header, entry, table, storedTrack, storedTracks, cylinderFile}
-use Rattle.cylinder.specs.Reading.{twoBytesAt, fourBytesAt, trackCountIn, zeroField, lengthIn, offsetIn, offsetDue, trackIn, packedIn, marksIn, sparesClear, cylinderIn}
-use Rattle.cylinder.proofs.Decides.{decides-count, decides-header, decides-offsets}
+use Rattle.cylinder.specs.Reading.{twoBytesAt, fourBytesAt, trackCountIn, zeroField, lengthIn, offsetIn, offsetDue, trackIn, packedIn, marksIn, sparesClear, cylinderIn, Room, Takes, roomFor}
+use Rattle.cylinder.proofs.Decides.{decides-count, decides-header, decides-offsets, decides-room}
 use Rattle.cylinder.proofs.Sound.{SoundFile, header-count, piece-within}
 use Rattle.cylinder.proofs.Packed.{length-unpacked, packed-unpacked, unpacked-legal}
 use Rattle.cylinder.proofs.Parts.{part-keeps, part-joined}
-use Rattle.cylinder.proofs.CylinderParts.{listed-length, part-listed, listed-lent}
+use Rattle.cylinder.proofs.CylinderParts.{listed-length, length-listed, part-listed, listed-lent}
 
 -- Two bytes that are read and written are the same bytes.
 two-back : (f : List ℕ) (p : ℕ) → AllBytes f → p + 2 ≤ length f → twoBytes (twoBytesAt f p) ≡ take 2 (drop p f)
@@ -79,6 +80,16 @@ module _ (f : List ℕ) (s : SoundFile f) where
   track-held k h =
       let n : ℕ = trackCountIn f in
       (part-listed n (lengthIn f) (trackIn f) length-track k h, part-listed n (lengthIn f) (marksIn f) (λ j l. length-marks f j) k h)
+
+  -- The test of what is lent for writing holds exactly where that takes the whole cylinder.
+  pub room-takes : (r : Room) → (roomFor f r ≡ true) ↔ Takes r (cylinderIn f)
+  room-takes r =
+      let n : ℕ = trackCountIn f in
+      let t : length (cylinderIn f .tracks) ≡ sumTo (lengthIn f) n = length-listed n (lengthIn f) (trackIn f) length-track n (omega arith) in
+      let m : length (cylinderIn f .marks) ≡ sumTo (lengthIn f) n = length-listed n (lengthIn f) (marksIn f) (λ k h. length-marks f k) n (omega arith) in (
+        λ e. let a = decides-room f r .pass e in (omega (arith, a .0), omega (arith, a .1 .0), omega (arith, a .1 .1, held-count)),
+        λ h. decides-room f r .passed (omega (arith, h .0), (omega (arith, h .1), omega (arith, h .2, held-count))),
+      )
 
   -- The cylinder is lent within the rule.
   pub lent-held : cylinderLent (cylinderIn f) ≡ true

@@ -7,26 +7,24 @@ use mathlib.Core.List.{List}
 use lib.ListN.{length}
 use lib.Dec.{leb}
 use borrow.Author.Tests.{le-leb}
-use Rattle.base.specs.Indexed.{sumTo, joinTo}
-use Rattle.base.proofs.Indexed.{sum-same}
-use Rattle.base.proofs.Tests.{and-make}
+use Rattle.base.specs.Indexed.{joinTo}
 use Rattle.crc.specs.Halves.{AllBytes}
 use Rattle.crc.proofs.Bytes.{all-bytes, byte-at}
 use Rattle.format.specs.Answer.{lentWrong, headerWrong, bufferTooShort}
 use Rattle.format.specs.Judged.{good, require}
 use Rattle.format.specs.Lent.{lentForReading}
 use Rattle.format.proofs.Base.Judged.{good-inj, then-good, require-good}
-use Rattle.cylinder.specs.Cylinder.{Cylinder, trackCount, startOf, trackOf, trackMarksOf, cylinderOf, trackCountRight, cylinderLent}
+use Rattle.cylinder.specs.Cylinder.{Cylinder, trackCount, trackOf, trackMarksOf, cylinderOf, trackCountRight, cylinderLent}
 use Rattle.cylinder.specs.File.{cylinderFile}
 use Rattle.cylinder.specs.Writing.{writeCylinder}
-use Rattle.cylinder.specs.Reading.{lengthIn, trackIn, marksIn, judgeFile, cylinderIn, Room, Takes, roomFor, readCylinder}
+use Rattle.cylinder.specs.Reading.{trackIn, marksIn, judgeFile, cylinderIn, Room, Takes, roomFor, readCylinder}
 use Rattle.cylinder.proofs.Sound.{SoundFile, file-sound, sound-file}
-use Rattle.cylinder.proofs.Sizes.{Lent, cylinder-lent}
-use Rattle.cylinder.proofs.WrittenFile.{count-read, length-read, cylinder-read, file-read}
+use Rattle.cylinder.proofs.Sizes.{cylinder-lent}
+use Rattle.cylinder.proofs.WrittenFile.{cylinder-read, file-read}
 use Rattle.cylinder.proofs.Parts.{join-keeps}
 use Rattle.cylinder.proofs.CylinderParts.{tracks-cylinder}
 use Rattle.cylinder.proofs.FileBytes.{file-bytes}
-use Rattle.cylinder.proofs.HeldCylinder.{held-count, track-held, lent-held, count-held, file-back}
+use Rattle.cylinder.proofs.HeldCylinder.{held-count, track-held, room-takes, lent-held, count-held, file-back}
 
 -- What is written of a cylinder that is lent within the rule is its file,
 pub lent-write : (c : Cylinder) (room : ℕ) → trackCountRight (trackCount c) ≡ true → cylinderLent c ≡ true → length (cylinderFile c) ≤ room → writeCylinder c room ≡ good (cylinderFile c)
@@ -52,14 +50,11 @@ read-sound f r c e =
 
 -- The file of a cylinder that is lent within the rule is read as that cylinder.
 file-reads : (c : Cylinder) (r : Room) → trackCountRight (trackCount c) ≡ true → cylinderLent c ≡ true → Takes r c → readCylinder (cylinderFile c) r ≡ good c
-unfolding readCylinder roomFor
+unfolding readCylinder
 file-reads c r n e h =
-    let lent : Lent c = cylinder-lent c e in
-    let s : sumTo (lengthIn (cylinderFile c)) (trackCount c) ≡ startOf (c .lengths) (trackCount c) = sum-same _ _ (trackCount c) (length-read c) in
-    let t : startOf (c .lengths) (trackCount c) ≤ r .tracks = omega (arith, lent .tracks-long) in
-    let m : startOf (c .lengths) (trackCount c) ≤ r .marks = omega (arith, lent .marks-long) in
-    let room : roomFor (cylinderFile c) r ≡ true = rw (count-read c, s) (and-make (le-leb _ _ t) (and-make (le-leb _ _ m) (le-leb _ _ (h .2)))) in
-    rw (sound-file (cylinderFile c) (file-read c lent n), room) (ap good (cylinder-read c e))
+    let s = file-read c (cylinder-lent c e) n in
+    let room = room-takes (cylinderFile c) s r .1 (subst (Takes r) (sym (cylinder-read c e)) h) in
+    rw (sound-file (cylinderFile c) s, room) (ap good (cylinder-read c e))
 
 -- What was written is read as the same cylinder.
 pub write-read : (c : Cylinder) (room : ℕ) (f : List ℕ) (r : Room) → writeCylinder c room ≡ good f → Takes r c → readCylinder f r ≡ good c
