@@ -8,7 +8,7 @@ use lib.ListN.{length}
 use lib.Seq.{take-all}
 use borrow.Author.Tests.{eq-eqb}
 use Rattle.base.specs.Indexed.{sumTo, joinTo, listTo}
-use Rattle.base.proofs.Indexed.{sum-same, all-holds, each-holds, length-join, join-part, join-cut, length-list, getD-list}
+use Rattle.base.proofs.Indexed.{sum-same, all-holds, each-holds, length-join, join-same, join-part, join-cut, length-list, getD-list, list-is}
 use Rattle.base.proofs.Tests.{and-make}
 use Rattle.format.specs.Lent.{lengthRight, marksLegal, lentForWriting, lentForReading}
 use Rattle.format.proofs.Base.Marks.{mark-at, marks-at}
@@ -26,6 +26,10 @@ parts-are ls xs n e = join-cut (lengthOf ls) xs n ∙ take-all (startOf ls n) xs
 pub legal-part : (ls m : List ℕ) (k : ℕ) → marksLegal m ≡ true → marksLegal (partOf ls m k) ≡ true
 unfolding partOf
 legal-part ls m k e = marks-at (partOf ls m k) (part-keeps (λ (z : ℕ). z < 2) (startOf ls k) (lengthOf ls k) m (mark-at m e))
+
+-- Cylinders of the same three lists are the same.
+pub cylinder-same : {a b : Cylinder} → a .tracks ≡ b .tracks → a .marks ≡ b .marks → a .lengths ≡ b .lengths → a ≡ b
+cylinder-same t m l = λ i. record { tracks = t i; marks = m i; lengths = l i }
 
 -- The tracks one behind the other are the lent slice, and so are their marks.
 pub joined-tracks : (c : Cylinder) → cylinderLent c ≡ true → (joinTo (trackOf c) (trackCount c) ≡ c .tracks) × (joinTo (trackMarksOf c) (trackCount c) ≡ c .marks)
@@ -93,3 +97,18 @@ tracks-cylinder n t m e =
       listed-lent n l t m (λ k h. lent-length (t k) (m k) (e k h) .1) long marked (λ k h. lent-legal (t k) (m k) (e k h)),
       λ k h. (part-listed n l t long k h, part-listed n l m marked k h),
     )
+
+-- The cylinder c has n tracks, which are t with the marks m.
+abbrev pub TracksAre : Cylinder → ℕ → (ℕ → List ℕ) → (ℕ → List ℕ) → Type 0
+TracksAre c n t m = (trackCount c ≡ n) × ((k : ℕ) → k < n → (trackOf c k ≡ t k) × (trackMarksOf c k ≡ m k))
+
+-- A cylinder that is lent within the rule is the one that its tracks and marks make.
+pub lent-tracks : (c : Cylinder) (n : ℕ) (t m : ℕ → List ℕ) → cylinderLent c ≡ true → TracksAre c n t m → c ≡ cylinderOf n t m
+lent-tracks c n t m e h =
+    let j = joined-tracks c e in
+    let long : (k : ℕ) → k < n → length (t k) ≡ lengthOf (c .lengths) k = λ k l.
+    ap length (sym (h .1 k l .0)) ∙ length-part (c .lengths) (c .tracks) k (trackCount c) (cylinder-lent c e .tracks-long) (omega (arith, h .0)) in
+    cylinder-same
+    (sym (j .0) ∙ ap (joinTo (trackOf c)) (h .0) ∙ join-same _ t n (λ k l. h .1 k l .0))
+    (sym (j .1) ∙ ap (joinTo (trackMarksOf c)) (h .0) ∙ join-same _ m n (λ k l. h .1 k l .1))
+    (sym (list-is (λ k. length (t k)) (c .lengths) n 0 (h .0) long))

@@ -22,7 +22,7 @@ use Rattle.cylinder.proofs.Sound.{SoundFile, file-sound, sound-file}
 use Rattle.cylinder.proofs.Sizes.{cylinder-lent}
 use Rattle.cylinder.proofs.WrittenFile.{cylinder-read, file-read}
 use Rattle.cylinder.proofs.Parts.{join-keeps}
-use Rattle.cylinder.proofs.CylinderParts.{tracks-cylinder}
+use Rattle.cylinder.proofs.CylinderParts.{tracks-cylinder, TracksAre, lent-tracks}
 use Rattle.cylinder.proofs.FileBytes.{file-bytes}
 use Rattle.cylinder.proofs.HeldCylinder.{held-count, track-held, room-takes, lent-held, count-held, file-back}
 
@@ -91,9 +91,15 @@ pub one-file : (c : Cylinder) (r : Room) → trackCountRight (trackCount c) ≡ 
     → AllBytes (cylinderFile c) × (readCylinder (cylinderFile c) r ≡ good c) × ((f : List ℕ) (q : Room) → AllBytes f → readCylinder f q ≡ good c → f ≡ cylinderFile c)
 one-file c r n e b h = (file-bytes c n e b, file-reads c r n e h, λ f q a g. read-file f q c a g)
 
--- So for any one to ten tracks of bytes, each lent with its marks within the rule, there is exactly one file of bytes that is read as them.
+-- What is read with n tracks t and their marks m is the cylinder of these.
+pub read-as-tracks : (f : List ℕ) (q : Room) (c : Cylinder) (n : ℕ) (t m : ℕ → List ℕ) → readCylinder f q ≡ good c → TracksAre c n t m → c ≡ cylinderOf n t m
+read-as-tracks f q c n t m e h = lent-tracks c n t m (read-lent f q c e .1) h
+
+-- So for any one to ten tracks of bytes, each lent with its marks within the rule, there is a file of bytes that is read as them, and every file of bytes that is read as them, with whatever room, is that one.
 pub tracks-one-file : (n : ℕ) (t m : ℕ → List ℕ) (r : Room) → trackCountRight n ≡ true → ((k : ℕ) → k < n → lentForReading (t k) (m k) ≡ true) → ((k : ℕ) → k < n → AllBytes (t k)) → Takes r (cylinderOf n t m)
-    → let c = cylinderOf n t m in AllBytes (cylinderFile c) × (readCylinder (cylinderFile c) r ≡ good c) × ((f : List ℕ) (q : Room) → AllBytes f → readCylinder f q ≡ good c → f ≡ cylinderFile c)
+    → let c = cylinderOf n t m in AllBytes (cylinderFile c) × (readCylinder (cylinderFile c) r ≡ good c) × TracksAre c n t m
+    × ((f : List ℕ) (q : Room) (d : Cylinder) → AllBytes f → readCylinder f q ≡ good d → TracksAre d n t m → f ≡ cylinderFile c)
 tracks-one-file n t m r e lent bytes h =
     let c = tracks-cylinder n t m lent in
-    one-file (cylinderOf n t m) r (rw (c .0) e) (c .1) (all-bytes (joinTo t n) (join-keeps (λ x. x < 256) t n (λ k l. byte-at (t k) (bytes k l)))) h
+    let o = one-file (cylinderOf n t m) r (rw (c .0) e) (c .1) (all-bytes (joinTo t n) (join-keeps (λ x. x < 256) t n (λ k l. byte-at (t k) (bytes k l)))) h in
+    (o .0, o .1, (c .0, c .2), λ f q d b g a. read-file f q d b g ∙ ap cylinderFile (read-as-tracks f q d n t m g a))

@@ -18,7 +18,7 @@ use Rattle.cylinder.specs.Reading.{twoBytesAt, fourBytesAt, trackCountIn
 use Rattle.cylinder.proofs.Sound.{SoundFile}
 use Rattle.cylinder.proofs.Sizes.{Lent, cylinder-lent, length-header, length-entry, length-entries, length-front, length-part, length-stored, length-joined, length-file}
 use Rattle.cylinder.proofs.Packed.{unpacked-packed, spare-packed}
-use Rattle.cylinder.proofs.CylinderParts.{legal-part, joined-tracks}
+use Rattle.cylinder.proofs.CylinderParts.{legal-part, cylinder-same, joined-tracks}
 use Rattle.cylinder.proofs.Parts.{part-at, part-first, part-second}
 
 -- The two bytes of a number, read again.
@@ -30,10 +30,6 @@ two-read f p x a b = omega arith
 four-read : (f : List ℕ) (p x : ℕ) → twoBytesAt f p ≡ x / 65536 → twoBytesAt f (p + 2) ≡ x % 65536 → fourBytesAt f p ≡ x
 unfolding fourBytesAt
 four-read f p x a b = omega arith
-
--- Cylinders of the same three lists are the same.
-cylinder-same : {a b : Cylinder} → a .tracks ≡ b .tracks → a .marks ≡ b .marks → a .lengths ≡ b .lengths → a ≡ b
-cylinder-same t m l = λ i. record { tracks = t i; marks = m i; lengths = l i }
 
 -- No track is due before the table's end.
 offset-from : (n : ℕ) (l : ℕ → ℕ) (k : ℕ) → tableEnd n ≤ offsetOf n l k
