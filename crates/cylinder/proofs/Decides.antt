@@ -153,11 +153,11 @@ decides-room f r =
     let n : ℕ = sumTo (lengthIn f) (trackCountIn f) in
     decides-and (decides-le n (r .tracks)) (decides-and (decides-le n (r .marks)) (decides-le (trackCountIn f) (r .lengths)))
 
--- Of an outcome behind a test a fact may be shown twice: of the refusal where the test fails, and of what comes after it where it holds.
+-- What holds of the refusal where the test fails, and of what follows where it holds, holds of the outcome.
 pub decided : {A : Type 0} (M : Judged A → Type 0) {b : Bool} {P Q : Type 0} → Decides b P Q → (a : Answer) (j : Judged A) → (Q → M (refused a)) → (P → M j) → M (require b a j)
 decided M {b} t a j f g = cases b (λ e. rw e (g (t .pass e))) (λ e. rw e (f (t .fail e)))
 
--- Where the row of number n is found among rows, and each of them leads to its answer, the answer has number n.
+-- The answer of j has the number n, if X holds where n is the number of a and Y where it is not, X gives j the answer a, and Y gives its answer the number n.
 pub row : {A X Y : Type 0} (j : Judged A) (n : ℕ) (a : Answer) → (X → answerOf j ≡ a) → (Y → answerOf j .number ≡ n) → pick (eqb n (a .number)) X Y → answerOf j .number ≡ n
 row j n a f g q =
     cases (eqb n (a .number))

@@ -143,7 +143,7 @@ module _ (f : List ℕ) (s : SoundFile f) where
         ∙ join-cut (λ j. entryLength) (drop headerLength f) n
         ∙ ap (λ (p : ℕ). take p (drop headerLength f)) (sum-const entryLength n)
 
-    -- Each track stands in its file as in the file,
+    -- Each track is stored in the cylinder's file as it stands in the file that was read,
     stored-back : (k : ℕ) → k < trackCountIn f → storedTrack (cylinderIn f) k ≡ take (storedSize (lengthIn f k)) (drop (offsetDue f k) f)
     unfolding storedTrack marksIn trackIn packedIn sparesClear
     stored-back k h =
@@ -156,7 +156,7 @@ module _ (f : List ℕ) (s : SoundFile f) where
         ∙ ap (λ (x : List ℕ). trackIn f k ++ x) (packed-unpacked l (packedIn f k) e b c)
         ∙ sym (part-joined (offsetDue f k) l (packedSize l) f)
 
-    -- and so all of them do.
+    -- and so are all of them.
     tracks-back : joinTo (storedTrack (cylinderIn f)) (trackCountIn f) ≡ drop (tableEnd (trackCountIn f)) f
     unfolding offsetDue offsetOf
     tracks-back =

@@ -45,7 +45,7 @@ cylinderOf n t m = record { tracks = joinTo t n; marks = joinTo m n; lengths = l
 unfoldable pub trackCountRight : ℕ → Bool
 trackCountRight n = leb 1 n && leb n 10
 
--- The first n of the lengths l are those of tracks.
+-- The first n of the lengths l are in range.
 unfoldable pub lengthsRight : (ℕ → ℕ) → ℕ → Bool
 lengthsRight l n = allTo (λ k. lengthRight (l k)) n
 
