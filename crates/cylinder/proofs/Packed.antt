@@ -73,17 +73,10 @@ unfolding unpacked
 unpacked-packed m e =
     list-is (markAt (packed m)) m (length m) 0 refl (λ i h. mark-packed m i (omega arith) ∙ omega (arith, mark-at m e i h))
 
--- Eight bits with their weights are less than 256.
-weights : (a b c d e f g h : ℕ) → a < 2 → b < 2 → c < 2 → d < 2 → e < 2 → f < 2 → g < 2 → h < 2
-    → a * 128 + b * 64 + c * 32 + d * 16 + e * 8 + f * 4 + g * 2 + h < 256
-weights a b c d e f g h p q r s t u v w = omega arith
-
 -- The byte of eight marks is a byte.
 octet-small : (a b c d e f g h : ℕ) → octet a b c d e f g h < 256
 unfolding octet
-octet-small a b c d e f g h =
-    weights (a % 2) (b % 2) (c % 2) (d % 2) (e % 2) (f % 2) (g % 2) (h % 2)
-    (omega arith) (omega arith) (omega arith) (omega arith) (omega arith) (omega arith) (omega arith) (omega arith)
+octet-small a b c d e f g h = omega arith
 
 -- Packed marks are bytes.
 pub packed-bytes : (m : List ℕ) → AllBytes (packed m)

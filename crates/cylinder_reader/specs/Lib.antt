@@ -1,2 +1,3 @@
--- What the code of reading lends and judges, in terms of the definitions.
+-- What the code of reading lends, judges and unpacks, in terms of the definitions.
+pub mod Bits
 pub mod Reading

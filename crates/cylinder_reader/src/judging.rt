@@ -8,6 +8,7 @@ ghost use Rattle.cylinder.specs.File.{headerLength, tableEnd};
 ghost use Rattle.cylinder.specs.Reading.{trackCountIn, lengthIn, offsetDue, headerRight, offsetsRight, sparesClear, judgeFile};
 ghost use Rattle.cylinder_reader.specs.Reading.{judgedFile};
 use crate::table;
+use crate::unpacking;
 use cylinder_layout::ENTRY;
 use cylinder_layout::HEADER;
 
@@ -84,7 +85,7 @@ fn spares_clear(file: &[u8], n: usize) -> bool
         let l = table::length_in(file, i);
         let from = offset + l;
         let to = from + cylinder_layout::packed_size(l);
-        if !cylinder_layout::spare_clear(&file[from..to], l) {
+        if !unpacking::spare_clear(&file[from..to], l) {
             return false;
         }
         offset = to;

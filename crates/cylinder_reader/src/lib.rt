@@ -2,6 +2,7 @@
 mod judging;
 mod reading;
 mod table;
+mod unpacking;
 
 pub use reading::Reading;
 pub use reading::read_cylinder;

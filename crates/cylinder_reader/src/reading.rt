@@ -12,6 +12,7 @@ ghost use Rattle.cylinder.specs.Reading.{trackCountIn, lengthIn, trackIn, marks
 ghost use Rattle.cylinder_reader.specs.Reading.{room, readInto};
 use crate::judging;
 use crate::table;
+use crate::unpacking;
 use cylinder_layout::ENTRY;
 use cylinder_layout::HEADER;
 
@@ -63,7 +64,7 @@ fn fill_marks(file: &[u8], n: usize, marks: &mut [u8])
         let l = table::length_in(file, i);
         let from = offset + l;
         let to = from + cylinder_layout::packed_size(l);
-        cylinder_layout::unpack(&file[from..to], l, &mut marks[at..]);
+        unpacking::unpack(&file[from..to], l, &mut marks[at..]);
         offset = to;
         at += l;
         i += 1;

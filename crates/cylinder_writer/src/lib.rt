@@ -15,6 +15,8 @@ ghost use Rattle.cylinder_writer.specs.Writing.{lent};
 use cylinder_layout::ENTRY;
 use cylinder_layout::HEADER;
 
+mod packing;
+
 // An L of the list as a number of the code.
 fn wide(l: u16) -> usize
     ensures { λ r. ⌜ r ≡ l ⌝ }
@@ -131,7 +133,7 @@ fn put_track(track: &[u8], marks: &[u8], out: &mut [u8])
     ensures { λ _. ⌜ now (out .exit) ≡ laidOver (now (track .entry) ++ packed (now (marks .entry))) (now (out .entry)) ⌝ }
 {
     let n = bytes::copy(track, out);
-    cylinder_layout::pack(marks, &mut out[n..]);
+    packing::pack(marks, &mut out[n..]);
 }
 
 // Writes all tracks with their packed marks over the front of out.

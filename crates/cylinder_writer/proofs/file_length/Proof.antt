@@ -59,8 +59,8 @@ loop-again c =
     let ls = c .before .before .before .before .before .before .args .lengths .now in
     let l = c .before .before .before .before .loop in
     let e : c .before .wide .result ≡ lengthOf ls (l .i) = c .before .wide .ensures .0 in
-    let s : c .packed-size .result ≡ packedSize (lengthOf ls (l .i)) = c .packed-size .ensures .0 ∙ ap packedSize e in
-    (omega arith, omega (arith, offset-next (length ls) (lengthOf ls) (l .i)), omega (arith, c .packed-size .ensures .1))
+    let s : c .packed-size .result ≡ packedSize (lengthOf ls (l .i)) = c .packed-size .ensures ∙ ap packedSize e in
+    (omega arith, omega (arith, offset-next (length ls) (lengthOf ls) (l .i)), omega arith)
 
 returns : tie.Need-returns Inv-loop μ-loop
 returns c =

@@ -95,11 +95,11 @@ loop-again c =
     let put = c .before .before .before .put-entry in
     let f : ℕ → List ℕ = entry (length ls) (lengthOf ls) in
     let e : w .result ≡ lengthOf ls (l .i) = w .ensures .0 in
-    let s : c .packed-size .result ≡ packedSize (lengthOf ls (l .i)) = c .packed-size .ensures .0 ∙ ap packedSize e in
+    let s : c .packed-size .result ≡ packedSize (lengthOf ls (l .i)) = c .packed-size .ensures ∙ ap packedSize e in
     let q = rw (e, l .inv .2) at (put .ensures) in
     let x = fill-more f (λ j. 6) (l .i) (l .p) old (l .out) (put .last .1 .1 .0) (l .inv .1 ∙ sym (sum-const 6 (l .i))) (λ j b. length-entry (length ls) (lengthOf ls) j)
     (omega arith) (l .inv .5) q in
-    (omega arith, omega arith, omega (arith, offset-next (length ls) (lengthOf ls) (l .i)), omega (arith, c .packed-size .ensures .1), x .0, x .1)
+    (omega arith, omega arith, omega (arith, offset-next (length ls) (lengthOf ls) (l .i)), omega arith, x .0, x .1)
 
 same-length : tie.Need-same-length Inv-loop μ-loop
 same-length c = search needs

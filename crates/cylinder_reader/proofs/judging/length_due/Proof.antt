@@ -49,8 +49,8 @@ loop-again c =
     let l = c .before .before .before .loop in
     let n = c .before .length-in in (
       omega arith,
-      omega (arith, due-next f (l .i), n .ensures .0, c .packed-size .ensures .0),
-      omega (arith, n .ensures .1, c .packed-size .ensures .1),
+      omega (arith, due-next f (l .i), n .ensures .0, c .packed-size .ensures),
+      omega (arith, n .ensures .1, c .packed-size .ensures),
     )
 
 returns : tie.Need-returns Inv-loop μ-loop

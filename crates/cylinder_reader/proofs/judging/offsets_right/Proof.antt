@@ -71,8 +71,8 @@ loop-again c =
     let n = c .before .length-in in
     let e : eqb (offsetIn f (l .i)) (offsetDue f (l .i)) ≡ true = eq-eqb _ _ (sym (c .before .before .before .offset-in .ensures) ∙ c .before .before .if1 .left ∙ l .inv .1) in (
       omega arith,
-      omega (arith, due-next f (l .i), n .ensures .0, c .packed-size .ensures .0),
-      omega (arith, n .ensures .1, c .packed-size .ensures .1),
+      omega (arith, due-next f (l .i), n .ensures .0, c .packed-size .ensures),
+      omega (arith, n .ensures .1, c .packed-size .ensures),
       all-next (λ k. eqb (offsetIn f k) (offsetDue f k)) (l .i) ∙ and-make (l .inv .3) e,
     )
 

@@ -71,7 +71,7 @@ spare-clear-requires c κs =
     let n = c .before .before .length-in in
     let s = c .before .packed-size in
     let d = due-within f (c .before .before .before .before .before .before .args .n) (l .i) (omega arith) in
-    (n .ensures .1, cut-length (l .offset + n .result) (s .result) f (omega (arith, n .ensures .0, s .ensures .0)) ∙ s .ensures .0)
+    (n .ensures .1, cut-length (l .offset + n .result) (s .result) f (omega (arith, n .ensures .0, s .ensures)) ∙ s .ensures)
 
 returns : tie.Need-returns Inv-loop μ-loop
 unfolding sparesClear
@@ -80,7 +80,7 @@ returns c =
     let l = c .before .before .before .before .before .before .loop in
     let n = c .before .before .before .before .length-in in
     let s = c .before .before .before .packed-size in
-    let e = sym (c .before .spare-clear .ensures ∙ spare-cut f (l .i) (l .offset) (n .result) (s .result) (l .inv .1) (n .ensures .0) (s .ensures .0)) ∙ not-true _ (c .if1 .taken) in
+    let e = sym (c .before .spare-clear .ensures ∙ spare-cut f (l .i) (l .offset) (n .result) (s .result) (l .inv .1) (n .ensures .0) (s .ensures)) ∙ not-true _ (c .if1 .taken) in
     sym (one-fails (λ k. spareClear (lengthIn f k) (packedIn f k)) (trackCountIn f) (l .i) (omega (arith, c .before .before .before .before .before .before .before .before .pre .0)) e)
 
 add-i : tie.Need-add-i Inv-loop μ-loop
@@ -95,9 +95,9 @@ loop-again c =
     let l = c .before .before .before .before .before .before .loop in
     let n = c .before .before .before .before .length-in in
     let s = c .before .before .before .packed-size in
-    let e = sym (c .before .spare-clear .ensures ∙ spare-cut f (l .i) (l .offset) (n .result) (s .result) (l .inv .1) (n .ensures .0) (s .ensures .0)) ∙ not-false _ (c .if1 .left) in (
+    let e = sym (c .before .spare-clear .ensures ∙ spare-cut f (l .i) (l .offset) (n .result) (s .result) (l .inv .1) (n .ensures .0) (s .ensures)) ∙ not-false _ (c .if1 .left) in (
       omega arith,
-      omega (arith, due-next f (l .i), n .ensures .0, s .ensures .0),
+      omega (arith, due-next f (l .i), n .ensures .0, s .ensures),
       all-next (λ k. spareClear (lengthIn f k) (packedIn f k)) (l .i) ∙ and-make (l .inv .2) e,
     )
 

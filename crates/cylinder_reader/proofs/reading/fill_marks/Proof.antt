@@ -97,7 +97,7 @@ unpack-requires c κs =
     let l = c .before .before .before .before .before .loop in
     let n = c .before .before .before .length-in in
     let z = c .before .before .packed-size in (
-      omega (arith, z .ensures .0, cut-length (l .offset + n .result) (z .result) (s .args .file .now) (omega (arith, n .ensures .0, z .ensures .0))),
+      omega (arith, z .ensures, cut-length (l .offset + n .result) (z .result) (s .args .file .now) (omega (arith, n .ensures .0, z .ensures))),
       omega (arith, n .ensures .0, part-all-length (l .at) (l .marks)),
     )
 
@@ -123,11 +123,11 @@ loop-again c =
     let p = c .before .before .before .before .before .before .before .before .before .before .before .pre in
     let h = piece-in f (a .n) (l .i) (p .0) (p .1 .0) (omega arith) in
     let put = c .before .before .unpack in
-    let w = rw (marks-cut f (l .i) (l .offset) (n .result) (s .result) (l .inv .1) (n .ensures .0) (s .ensures .0)) at (put .ensures) in
+    let w = rw (marks-cut f (l .i) (l .offset) (n .result) (s .result) (l .inv .1) (n .ensures .0) (s .ensures)) at (put .ensures) in
     let m = fill-more (marksIn f) (lengthIn f) (l .i) (l .at) (a .marks .now) (l .marks) (put .last .1 .1 .0) (l .inv .2)
     (λ j b. length-marks f j) (omega (arith, p .1 .1)) (l .inv .4) w in (
       omega arith,
-      omega (arith, due-next f (l .i), n .ensures .0, s .ensures .0),
+      omega (arith, due-next f (l .i), n .ensures .0, s .ensures),
       omega (arith, sum-next (lengthIn f) (l .i), n .ensures .0),
       m .0,
       m .1,

@@ -124,7 +124,7 @@ loop-again c =
     let m = fill-more (trackIn f) (lengthIn f) (l .i) (l .at) (a .tracks .now) (l .tracks) (put .last .1 .0) (l .inv .2)
     (λ j b. length-track f (file-sound f (p .1 .0)) j (omega (arith, p .0))) (omega (arith, p .1 .1)) (l .inv .4) w in (
       omega arith,
-      omega (arith, due-next f (l .i), n .ensures .0, c .packed-size .ensures .0),
+      omega (arith, due-next f (l .i), n .ensures .0, c .packed-size .ensures),
       omega (arith, sum-next (lengthIn f) (l .i), n .ensures .0),
       m .0,
       m .1,

@@ -8,8 +8,8 @@ use lib.ListN.{length, length-set}
 use Rattle.base.specs.Laid.{laidOver}
 use Rattle.base.proofs.Filling.{list-store}
 use Rattle.cylinder.specs.Packed.{markAt, unpacked}
-use Rattle.cylinder_layout.proofs.packing.unpack.Statement.{statement}
-use Rattle.cylinder_layout.proofs.packing.unpack.Tie as tie
+use Rattle.cylinder_reader.proofs.unpacking.unpack.Statement.{statement}
+use Rattle.cylinder_reader.proofs.unpacking.unpack.Tie as tie
 
 -- What holds at each turn: over whatever list the marks of the whole bytes were laid, the first i marks lie.
 abbrev Inv-loop : tie.InvT-loop

@@ -8,8 +8,8 @@ use lib.Dec.{eqb}
 use Rattle.base.proofs.Tests.{cases}
 use Rattle.cylinder.specs.Packed.{markAt}
 use Rattle.cylinder.proofs.Decides.{decides-spares}
-use Rattle.cylinder_layout.proofs.packing.spare_clear.Statement.{statement}
-use Rattle.cylinder_layout.proofs.packing.spare_clear.Tie as tie
+use Rattle.cylinder_reader.proofs.unpacking.spare_clear.Statement.{statement}
+use Rattle.cylinder_reader.proofs.unpacking.spare_clear.Tie as tie
 
 -- What holds at each turn: no bit from l up to i is set.
 abbrev Inv-loop : tie.InvT-loop

@@ -2,8 +2,8 @@
 use mathlib.Core.Path.{sym}
 use borrow.Author.Needs.{needs}
 use lib.ListN.{List·getD-eq-default}
-use Rattle.cylinder_layout.proofs.packing.mark_or_zero.Statement.{statement}
-use Rattle.cylinder_layout.proofs.packing.mark_or_zero.Tie as tie
+use Rattle.cylinder_writer.proofs.packing.mark_or_zero.Statement.{statement}
+use Rattle.cylinder_writer.proofs.packing.mark_or_zero.Tie as tie
 
 shared-slice-read-result : tie.Need-shared-slice-read-result
 shared-slice-read-result c = search needs

@@ -8,8 +8,8 @@ use Rattle.base.specs.Indexed.{joinTo, listTo}
 use Rattle.base.specs.Laid.{laidOver}
 use Rattle.base.proofs.Filling.{list-store}
 use Rattle.cylinder.specs.Packed.{packedSize, octetAt, packed}
-use Rattle.cylinder_layout.proofs.packing.pack.Statement.{statement}
-use Rattle.cylinder_layout.proofs.packing.pack.Tie as tie
+use Rattle.cylinder_writer.proofs.packing.pack.Statement.{statement}
+use Rattle.cylinder_writer.proofs.packing.pack.Tie as tie
 
 -- What holds at each turn: the first i bytes lie over the front.
 abbrev Inv-loop : tie.InvT-loop

@@ -2,8 +2,8 @@
 use mathlib.Core.Path.{refl}
 use borrow.Author.Needs.{needs}
 use Rattle.cylinder.specs.Packed.{octet}
-use Rattle.cylinder_layout.proofs.packing.octet_of.Statement.{statement}
-use Rattle.cylinder_layout.proofs.packing.octet_of.Tie as tie
+use Rattle.cylinder_writer.proofs.packing.octet_of.Statement.{statement}
+use Rattle.cylinder_writer.proofs.packing.octet_of.Tie as tie
 
 mul-result : tie.Need-mul-result
 mul-result c = search needs

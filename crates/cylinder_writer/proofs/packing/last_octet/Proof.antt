@@ -1,8 +1,8 @@
 -- `last_octet` meets its contract.
 use borrow.Author.Needs.{needs}
 use Rattle.cylinder.specs.Packed.{octetAt}
-use Rattle.cylinder_layout.proofs.packing.last_octet.Statement.{statement}
-use Rattle.cylinder_layout.proofs.packing.last_octet.Tie as tie
+use Rattle.cylinder_writer.proofs.packing.last_octet.Statement.{statement}
+use Rattle.cylinder_writer.proofs.packing.last_octet.Tie as tie
 
 mark-or-zero-requires : tie.Need-mark-or-zero-requires
 mark-or-zero-requires c κs = search needs

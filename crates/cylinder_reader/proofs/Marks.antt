@@ -11,7 +11,7 @@ use Rattle.base.proofs.Laid.{over-next}
 use Rattle.base.proofs.Filling.{list-append}
 use Rattle.cylinder.specs.Packed.{bitOf, markAt, unpacked}
 use Rattle.cylinder.proofs.Packed.{length-unpacked, mark-in}
-use Rattle.cylinder_layout.specs.Bits.{bitsOf}
+use Rattle.cylinder_reader.specs.Bits.{bitsOf}
 
 -- Bit k of a byte is the element at k of its eight bits.
 getD-bits : (x k : ℕ) → k < 8 → bitOf x k ≡ getD (bitsOf x) k 0

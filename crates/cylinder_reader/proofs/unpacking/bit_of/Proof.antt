@@ -3,8 +3,8 @@ use mathlib.Core.Path.{_≡_, sym, ap}
 use Prim.Native.Nat.{ℕ, suc, _+_, _-_, _%_, _≤_}
 use native.Mathlib.Omega.{arith}
 use Rattle.cylinder.specs.Packed.{bitOf}
-use Rattle.cylinder_layout.proofs.packing.bit_of.Statement.{statement}
-use Rattle.cylinder_layout.proofs.packing.bit_of.Tie as tie
+use Rattle.cylinder_reader.proofs.unpacking.bit_of.Statement.{statement}
+use Rattle.cylinder_reader.proofs.unpacking.bit_of.Tie as tie
 
 -- A number that is n or more, and not n, is n + 1 or more.
 past : (k : ℕ) {n : ℕ} → n ≤ k → (k ≡ n → ⊥) → n + 1 ≤ k

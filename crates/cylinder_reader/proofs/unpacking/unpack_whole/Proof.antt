@@ -8,9 +8,9 @@ use Rattle.base.specs.Indexed.{joinTo}
 use Rattle.base.specs.Laid.{laidOver}
 use Rattle.base.proofs.Laid.{laid-back}
 use Rattle.cylinder.specs.Packed.{unpacked}
-use Rattle.cylinder_layout.proofs.Marks.{bits-laid}
-use Rattle.cylinder_layout.proofs.packing.unpack_whole.Statement.{statement}
-use Rattle.cylinder_layout.proofs.packing.unpack_whole.Tie as tie
+use Rattle.cylinder_reader.proofs.Marks.{bits-laid}
+use Rattle.cylinder_reader.proofs.unpacking.unpack_whole.Statement.{statement}
+use Rattle.cylinder_reader.proofs.unpacking.unpack_whole.Tie as tie
 
 -- What holds at each turn: the marks of the first i bytes lie over the front.
 abbrev Inv-loop : tie.InvT-loop

@@ -1,8 +1,8 @@
 -- `octet_at` meets its contract.
 use borrow.Author.Needs.{needs}
 use Rattle.cylinder.specs.Packed.{octetAt}
-use Rattle.cylinder_layout.proofs.packing.octet_at.Statement.{statement}
-use Rattle.cylinder_layout.proofs.packing.octet_at.Tie as tie
+use Rattle.cylinder_writer.proofs.packing.octet_at.Statement.{statement}
+use Rattle.cylinder_writer.proofs.packing.octet_at.Tie as tie
 
 add-if1 : tie.Need-add-if1
 add-if1 c = search needs

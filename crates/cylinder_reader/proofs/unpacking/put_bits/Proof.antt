@@ -5,9 +5,9 @@ use lib.ListN.{length-set}
 use lib.Seq.{sets-eq}
 use Rattle.base.specs.Laid.{laidOver}
 use Rattle.cylinder.specs.Packed.{bitOf}
-use Rattle.cylinder_layout.specs.Bits.{bitsOf}
-use Rattle.cylinder_layout.proofs.packing.put_bits.Statement.{statement}
-use Rattle.cylinder_layout.proofs.packing.put_bits.Tie as tie
+use Rattle.cylinder_reader.specs.Bits.{bitsOf}
+use Rattle.cylinder_reader.proofs.unpacking.put_bits.Statement.{statement}
+use Rattle.cylinder_reader.proofs.unpacking.put_bits.Tie as tie
 
 slice-write-out : tie.Need-slice-write-out
 slice-write-out c = search needs
