@@ -518,3 +518,82 @@ fn order_of_the_answers() {
         assert_eq!(answer_of(&done), answer(first, 0), "{note}");
     }
 }
+
+/// The numbers of writing in the order of the text.
+const WRITING_ORDER: [u8; 3] = [18, 1, 24];
+
+/// Eleven lengths, with these first and last.
+const fn eleven(first: usize, last: usize) -> [usize; 11] {
+    let mut lengths = [3_906; 11];
+    lengths[0] = first;
+    lengths[10] = last;
+    lengths
+}
+
+/// Lists of two, no and eleven lengths, all in range, the first one below it or the last one above it; each list with its first fault.
+const LISTS: [(u8, &[usize]); 7] = [
+    (0, &[3_815, 3_906]),
+    (1, &[3_814, 3_906]),
+    (1, &[3_815, 4_003]),
+    (18, &[]),
+    (18, &eleven(3_815, 3_906)),
+    (18, &eleven(3_814, 3_906)),
+    (18, &eleven(3_815, 4_003)),
+];
+
+/// The marks with this length: as they are, and, where there are any, with a 2 first and with a 2 last.
+fn marks_with_a_two(marks: &[u8], length: usize) -> Vec<Vec<u8>> {
+    let mut right = marks.to_vec();
+    right.resize(length, 1);
+    let mut all = vec![right.clone()];
+    for place in [0, length.wrapping_sub(1)] {
+        let mut wrong = right.clone();
+        if let Some(mark) = wrong.get_mut(place) {
+            *mark = 2;
+            all.push(wrong);
+        }
+    }
+    all
+}
+
+/// These tracks with slices next to the sum of their lengths, and with a wrong mark; each with 1 if that is a fault.
+fn with_slices_near(right: &Cylinder) -> Vec<(u8, Cylinder)> {
+    let sum = right.tracks.len();
+    let near = || sum.saturating_sub(1)..=sum + 1;
+    let mut all = vec![];
+    for (length, marks_length) in near().flat_map(|a| near().map(move |b| (a, b))) {
+        let mut cylinder = right.clone();
+        cylinder.tracks.resize(length, 0x5A);
+        for marks in marks_with_a_two(&right.marks, marks_length) {
+            let fits = (length, marks_length) == (sum, sum) && !marks.contains(&2);
+            let cylinder = Cylinder {
+                marks,
+                ..cylinder.clone()
+            };
+            all.push((u8::from(!fits), cylinder));
+        }
+    }
+    all
+}
+
+/// Every combination of the faults of writing gives the first of them.
+#[test]
+fn order_of_the_answers_writing() {
+    let mut met = BTreeMap::<_, u32>::new();
+    for (list, lengths) in LISTS {
+        let tracks = tracks_of(lengths);
+        let length = cylinder_file(&tracks).len();
+        for (slices, cylinder) in with_slices_near(&cylinder_of(&tracks)) {
+            for (buffer, room) in [(24, length - 1), (0, length)] {
+                let faults = [list, slices, buffer];
+                let first = WRITING_ORDER.into_iter().find(|n| faults.contains(n));
+                let number = first.unwrap_or(0);
+                let note = format!("{faults:?}, {lengths:?}, room {room}");
+                let done = write_by_both(&cylinder, &noisy_file(5, room), &note);
+                assert_eq!(answer_of(&done), answer(number, 0), "{note}");
+                *met.entry(number).or_default() += 1;
+            }
+        }
+    }
+    assert_eq!(met, [(0, 1), (1, 160), (18, 178), (24, 1)].into());
+}
