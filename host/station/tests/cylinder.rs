@@ -484,38 +484,168 @@ fn marks_out_of_rule() {
 
 /// A file and the lengths of the buffers that are lent for it.
 type Reading = (Vec<u8>, [usize; 3]);
-/// The number that a fault has, and what makes it.
-type Fault = (u8, fn(&mut Reading));
 
-/// The faults of a file of two tracks of 3,815 and 3,906 bytes, in the order in which they are told.
+/// One cause of a fault of a reading.
+#[derive(Clone, Copy, Debug)]
+enum Cause {
+    /// The file gets this length.
+    Length(usize),
+    /// This byte stands at a place of the file.
+    Byte(usize, u8),
+    /// This number of two bytes stands at a place of the file.
+    Two(usize, u16),
+    /// This bit is set in the byte at a place of the file.
+    Bit(usize, u8),
+    /// The tracks (0), the marks (1) or the list (2) get this length.
+    Room(usize, usize),
+}
+use Cause::*;
+
+impl Cause {
+    /// Puts the fault into a reading.
+    fn put(self, (file, rooms): &mut Reading) {
+        match self {
+            Length(length) => file.resize(length, 0),
+            Byte(place, byte) => file[place] = byte,
+            Two(place, number) => file[place..place + 2].copy_from_slice(&number.to_be_bytes()),
+            Bit(place, bit) => file[place] |= 1 << bit,
+            Room(which, length) => rooms[which] = length,
+        }
+    }
+}
+
+/// A fault's number and its causes.
+type Fault = (u8, &'static [Cause]);
+
+/// The faults of reading in the order of the text.
+///
+/// They are for a file of 8,703 bytes, with tracks of 3,815 bytes at 16 and of 3,906 bytes at 4,308, one spare bit at 4,307 and six at 8,702.
 const FAULTS: [Fault; 8] = [
-    (20, |(file, _)| file.truncate(3)),
-    (18, |(file, _)| file[3] = 1),
-    (20, |(file, _)| file.truncate(15)),
-    (1, |(file, _)| file[10] = 0),
-    (19, |(file, _)| file[9] ^= 1),
-    (20, |(file, _)| file.truncate(file.len() - 1)),
-    (21, |(file, _)| file[16 + 4_292 - 1] |= 1),
-    (24, |(_, rooms)| rooms[1] -= 1),
+    // The header cut short.
+    (20, &[Length(0), Length(1), Length(3)]),
+    // The number of tracks, and both bytes of the zero field.
+    (
+        18,
+        &[Byte(1, 0), Byte(1, 11), Byte(0, 1), Byte(2, 1), Byte(3, 1)],
+    ),
+    // The table cut short.
+    (20, &[Length(4), Length(15)]),
+    // Both lengths.
+    (
+        1,
+        &[
+            Two(4, 3_814),
+            Two(4, 4_003),
+            Two(4, 0),
+            Two(4, 65_535),
+            Two(10, 3_814),
+            Two(10, 4_003),
+            Two(10, 0),
+            Two(10, 65_535),
+        ],
+    ),
+    // Both offsets: one less, one more, and with the top byte set.
+    (
+        19,
+        &[
+            Byte(9, 15),
+            Byte(9, 17),
+            Byte(6, 1),
+            Byte(15, 0xD3),
+            Byte(15, 0xD5),
+            Byte(12, 1),
+        ],
+    ),
+    // Another length.
+    (20, &[Length(8_702), Length(8_704)]),
+    // Each spare bit.
+    (
+        21,
+        &[
+            Bit(4_307, 0),
+            Bit(8_702, 0),
+            Bit(8_702, 1),
+            Bit(8_702, 2),
+            Bit(8_702, 3),
+            Bit(8_702, 4),
+            Bit(8_702, 5),
+        ],
+    ),
+    // Both slices and the list, one less and none.
+    (
+        24,
+        &[
+            Room(0, 7_720),
+            Room(0, 0),
+            Room(1, 7_720),
+            Room(1, 0),
+            Room(2, 1),
+            Room(2, 0),
+        ],
+    ),
 ];
 
-/// Every set of these faults gives the first of them.
-#[test]
-fn order_of_the_answers() {
-    let file = cylinder_file(&tracks_of(&[3_815, 3_906]));
-    for set in 0..1_u32 << FAULTS.len() {
-        let mut reading = (file.clone(), [7_721, 7_721, 2]);
-        let mut first = 0;
-        // The last one first, so that each finds the bytes that it alters.
-        for (nth, (number, fault)) in FAULTS.iter().enumerate().rev() {
-            if set >> nth & 1 == 1 {
-                fault(&mut reading);
-                first = *number;
-            }
+/// A fault by one of its causes, with its place in the order.
+type Caused = (usize, Cause);
+
+/// Every fault by each of its causes.
+fn all_caused() -> Vec<Caused> {
+    let caused =
+        |(place, (_, causes)): (usize, &Fault)| causes.iter().map(move |&cause| (place, cause));
+    FAULTS.iter().enumerate().flat_map(caused).collect()
+}
+
+/// Every fault by one of its causes, in each turn by another one.
+fn caused_in(turn: usize) -> Vec<Caused> {
+    let caused = |(place, (_, causes)): (usize, &Fault)| (place, causes[turn % causes.len()]);
+    FAULTS.iter().enumerate().map(caused).collect()
+}
+
+/// Sets of faults, each in the order of the text: each fault by each cause, each two of these, and each set of the eight by one cause each, in eight turns.
+fn sets_of_faults() -> Vec<Vec<Caused>> {
+    let all = all_caused();
+    let mut sets: Vec<Vec<Caused>> = all.iter().map(|&one| vec![one]).collect();
+    for &first in &all {
+        let later = all.iter().filter(|second| first.0 < second.0);
+        sets.extend(later.map(|&second| vec![first, second]));
+    }
+    for turn in (0..8).map(caused_in) {
+        for set in 0..1_u32 << turn.len() {
+            let chosen = turn.iter().filter(|(place, _)| set >> place & 1 == 1);
+            sets.push(chosen.copied().collect());
         }
-        let note = format!("set {set:08b}");
+    }
+    sets
+}
+
+/// A reading with these faults; the last one is put in first, so that each finds the bytes that it alters.
+fn with_faults(right: &Reading, faults: &[Caused]) -> Reading {
+    let mut reading = right.clone();
+    let causes = faults.iter().rev();
+    causes.for_each(|(_, cause)| cause.put(&mut reading));
+    reading
+}
+
+/// Every set of faults gives the first of them.
+#[test]
+fn order_of_the_answers_reading() {
+    let right = (
+        cylinder_file(&tracks_of(&[3_815, 3_906])),
+        [7_721, 7_721, 2],
+    );
+    let sets = sets_of_faults();
+    assert_eq!(sets.len(), 39 + 647 + 8 * 256);
+    for set in sets {
+        let number = set.first().map_or(0, |&(place, _)| FAULTS[place].0);
+        let (reading, note) = (with_faults(&right, &set), format!("{set:?}"));
+        // Only another length of the file can take other faults with it.
+        let others = set.len() > 1 && number != 20;
+        assert!(
+            !others || reading != with_faults(&right, &set[..1]),
+            "{note}"
+        );
         let done = read_by_both(&reading.0, &noisy(4, reading.1), &note);
-        assert_eq!(answer_of(&done), answer(first, 0), "{note}");
+        assert_eq!(answer_of(&done), answer(number, 0), "{note}");
     }
 }
 
