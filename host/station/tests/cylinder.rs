@@ -4,8 +4,9 @@ mod common;
 
 use common::{answer, expected, new_sector, new_track, noise, reads_back, Tally, Track};
 use reference::generate::{
-    cylinder_file, cylinder_of, sound, wanted_add, wanted_blank, wanted_read_cylinder,
-    wanted_write_cylinder, Cylinder, Rng, WantedAdd, WantedBlank,
+    cylinder_file, cylinder_of, noisy_cylinder, noisy_file, spare_bits, sum_of, tracks_of,
+    wanted_add, wanted_blank, wanted_read_cylinder, wanted_write_cylinder, Cylinder, WantedAdd,
+    WantedBlank,
 };
 use station::{Answer, LONGEST_FILE, MOST_TRACKS};
 use std::collections::{BTreeMap, BTreeSet};
@@ -17,21 +18,6 @@ const READ: [u8; 7] = [0, 1, 18, 19, 20, 21, 24];
 const WRITE: [u8; 4] = [0, 1, 18, 24];
 /// As many bytes as the tracks of any file have.
 const MOST_BYTES: usize = MOST_TRACKS * 4_002;
-
-/// Buffers full of noise, of these lengths.
-fn noisy(seed: u64, [tracks, marks, lengths]: [usize; 3]) -> Cylinder {
-    let mut rng = Rng::new(seed ^ 0xC711_0000);
-    Cylinder {
-        tracks: rng.bytes(tracks),
-        marks: rng.bytes(marks),
-        lengths: (0..lengths).map(|_| rng.bits() as u16).collect(),
-    }
-}
-
-/// A buffer full of noise.
-fn noisy_file(seed: u64, length: usize) -> Vec<u8> {
-    noise(seed ^ 0xC711_F11E, length, 0).0
-}
 
 /// Demands equal lists; says where the first difference is.
 fn same<T: PartialEq + Debug>(name: &str, ours: &[T], theirs: &[T], note: &str) {
@@ -48,11 +34,6 @@ fn same_cylinder(ours: &Cylinder, theirs: &Cylinder, note: &str) {
     same("tracks", &ours.tracks, &theirs.tracks, note);
     same("marks", &ours.marks, &theirs.marks, note);
     same("lengths", &ours.lengths, &theirs.lengths, note);
-}
-
-/// The sum of the lengths.
-fn sum_of(lengths: &[u16]) -> usize {
-    lengths.iter().map(|&length| usize::from(length)).sum()
 }
 
 /// Demands the same behind what was read: so many bytes and marks, and so many lengths.
@@ -77,12 +58,12 @@ fn same_rest(ours: &Cylinder, before: &Cylinder, sum: usize, count: usize, note:
     );
 }
 
-/// What the reference answers and gives, in the wrapper's type.
-fn given((answer, count): (reference::Answer, usize)) -> Result<usize, Answer> {
-    match expected(answer) {
+/// What the reference answers and gives, in the wrapper's type; a refusal has place 0 and gives nothing.
+fn given((done, count): (reference::Answer, usize)) -> Result<usize, Answer> {
+    match expected(done) {
         Answer::DONE => Ok(count),
         refusal => {
-            assert_eq!(count, 0);
+            assert_eq!((refusal, count), (answer(refusal.number, 0), 0));
             Err(refusal)
         }
     }
@@ -147,7 +128,7 @@ fn written_to(cylinder: &Cylinder, file: &[u8], seed: u64, note: &str) {
 /// Demands that these tracks are read from a file, with just enough room; gives them as they were read.
 fn read_from(file: &[u8], cylinder: &Cylinder, seed: u64, note: &str) -> Cylinder {
     let sum = cylinder.tracks.len();
-    let before = noisy(seed, [sum, sum, cylinder.lengths.len()]);
+    let before = noisy_cylinder(seed, [sum, sum, cylinder.lengths.len()]);
     let read = read_by_both(file, &before, note).expect(note);
     same_cylinder(&read, cylinder, note);
     read
@@ -155,14 +136,12 @@ fn read_from(file: &[u8], cylinder: &Cylinder, seed: u64, note: &str) -> Cylinde
 
 /// Buffers for any file.
 fn room_for_any() -> Cylinder {
-    noisy(0, [MOST_BYTES, MOST_BYTES, MOST_TRACKS])
+    noisy_cylinder(0, [MOST_BYTES, MOST_BYTES, MOST_TRACKS])
 }
 
 /// Read cylinder into these buffers; gives the number of its answer.
 fn number_read(file: &[u8], before: &Cylinder, note: &str) -> u8 {
-    let done = answer_of(&read_by_both(file, before, note));
-    assert_eq!(done, answer(done.number, 0), "{note}");
-    done.number
+    answer_of(&read_by_both(file, before, note)).number
 }
 
 /// Demands each number of tracks from one to ten, each so many times.
@@ -180,7 +159,7 @@ fn read_cylinder_as_the_reference() {
     let (mut tally, mut met) = (Tally::new("read cylinder", 20_000), BTreeMap::new());
     for seed in tally.seeds() {
         let (w, note) = (wanted_read_cylinder(seed), format!("seed {seed}"));
-        let before = noisy(seed, [w.tracks_length, w.marks_length, w.lengths_count]);
+        let before = noisy_cylinder(seed, [w.tracks_length, w.marks_length, w.lengths_count]);
         let done = read_by_both(&w.file, &before, &note);
         tally.count(answer_of(&done));
         if let Ok(read) = done {
@@ -262,17 +241,6 @@ fn written_tracks_survive() {
     tally.finish(1_000, &[0]);
 }
 
-/// Sound tracks of these lengths; what they gain is marked.
-fn tracks_of(lengths: &[usize]) -> Vec<Track> {
-    let track = |(seed, &length): (u64, &usize)| {
-        let (mut track, mut marks) = sound(seed);
-        track.resize(length, 0x0E);
-        marks.resize(length, 1);
-        (track, marks)
-    };
-    (0..).zip(lengths).map(track).collect()
-}
-
 /// Every length in range goes there and back; of the last byte of marks exactly the spare bits are refused.
 #[test]
 fn every_length_and_its_spare_bits() {
@@ -284,7 +252,7 @@ fn every_length_and_its_spare_bits() {
             let note = format!("{lengths:?}");
             written_to(&cylinder, &file, 0, &note);
             read_from(&file, &cylinder, 0, &note);
-            let spare = 7 - (length - 1) % 8;
+            let spare = spare_bits(length);
             spare_counts.insert(spare);
             let last = 4 + 6 * lengths.len() + length + length.div_ceil(8) - 1;
             for bit in 0..8 {
@@ -306,7 +274,7 @@ fn every_length_and_its_spare_bits() {
 #[test]
 fn every_header() {
     let mut file = cylinder_file(&tracks_of(&[3_906]));
-    let (room, mut met) = (noisy(0, [8, 8, 2]), BTreeMap::<_, u32>::new());
+    let (room, mut met) = (noisy_cylinder(0, [8, 8, 2]), BTreeMap::<_, u32>::new());
     for count in 0..=0xFFFF_u16 {
         let note = format!("{count} tracks");
         file[..2].copy_from_slice(&count.to_be_bytes());
@@ -410,7 +378,7 @@ fn rooms_at_their_edges() {
         for (tracks, marks) in near.iter().flat_map(|&a| near.map(|b| (a, b))) {
             for list in counts {
                 let note = format!("{tracks}, {marks}, {list} for {sum}, {count}");
-                let read = read_by_both(&file, &noisy(1, [tracks, marks, list]), &note);
+                let read = read_by_both(&file, &noisy_cylinder(1, [tracks, marks, list]), &note);
                 let enough = tracks >= sum && marks >= sum && list >= count;
                 let number = if enough { 0 } else { 24 };
                 assert_eq!(answer_of(&read), answer(number, 0), "{note}");
@@ -432,9 +400,7 @@ fn rooms_at_their_edges() {
 fn lists_and_slices_at_their_edges() {
     let (room, file_room) = (room_for_any(), noisy_file(2, 60_000));
     let number = |cylinder: &Cylinder, note: &str| {
-        let done = answer_of(&write_by_both(cylinder, &file_room, note));
-        assert_eq!(done, answer(done.number, 0), "{note}");
-        done.number
+        answer_of(&write_by_both(cylinder, &file_room, note)).number
     };
     for count in (0..=12).chain([255, 256, 257, 266, 65_535, 65_536, 65_537]) {
         let mut cylinder = cylinder_of(&tracks_of(&vec![3_906; count.min(12)]));
@@ -644,7 +610,7 @@ fn order_of_the_answers_reading() {
             !others || reading != with_faults(&right, &set[..1]),
             "{note}"
         );
-        let done = read_by_both(&reading.0, &noisy(4, reading.1), &note);
+        let done = read_by_both(&reading.0, &noisy_cylinder(4, reading.1), &note);
         assert_eq!(answer_of(&done), answer(number, 0), "{note}");
     }
 }

@@ -1,20 +1,13 @@
 //! Files of cylinders to be read, and tracks to be written to such files: often in rule, often not.
-//!
-//! The files are laid out here one track after the other and never by the calls themselves.
 
+use super::cylinder_file::{
+    cylinder_file, cylinder_of, first_offset, noisy_track, spare_bits, stored_length, Cylinder,
+};
 use super::damage::damaged;
 use super::jumble::jumbled;
 use super::pairs::Track;
 use super::rng::Rng;
 use super::sound::{random_length, sound};
-
-/// The tracks of a cylinder in memory: all their bytes, all their marks, and how long each of them is.
-#[derive(Clone, PartialEq, Eq, Debug)]
-pub struct Cylinder {
-    pub tracks: Vec<u8>,
-    pub marks: Vec<u8>,
-    pub lengths: Vec<u16>,
-}
 
 /// Arguments of Read cylinder, with the lengths of the two buffers and of the list.
 #[derive(Clone, Debug)]
@@ -36,51 +29,6 @@ pub struct WantedWriteCylinder {
 const MOST: usize = 10;
 /// Lengths of tracks next to the range and far from it, and 3,906 with its bytes exchanged.
 const WRONG_LENGTHS: [usize; 8] = [0, 1, 3_814, 4_003, 0x42_0F, 7_812, 32_768, 65_535];
-
-/// The tracks one after the other, as they stand in memory.
-pub fn cylinder_of(tracks: &[Track]) -> Cylinder {
-    Cylinder {
-        tracks: tracks.iter().flat_map(|(bytes, _)| bytes.clone()).collect(),
-        marks: tracks.iter().flat_map(|(_, marks)| marks.clone()).collect(),
-        lengths: tracks.iter().map(|(bytes, _)| bytes.len() as u16).collect(),
-    }
-}
-
-/// The file of any tracks, however many and however long; a mark that is not 0 counts as 1.
-pub fn cylinder_file(tracks: &[Track]) -> Vec<u8> {
-    let mut file = vec![0, tracks.len() as u8, 0, 0];
-    let mut offset = first_offset(tracks.len());
-    for (bytes, _) in tracks {
-        file.extend((bytes.len() as u16).to_be_bytes());
-        file.extend((offset as u32).to_be_bytes());
-        offset += stored_length(bytes.len());
-    }
-    for (bytes, marks) in tracks {
-        file.extend(bytes);
-        file.extend(marks.chunks(8).map(eight_marks));
-    }
-    file
-}
-
-/// Where the first of so many tracks is stored.
-fn first_offset(count: usize) -> usize {
-    4 + 6 * count
-}
-
-/// How many bytes a track of this length takes in a file.
-fn stored_length(length: usize) -> usize {
-    length + length.div_ceil(8)
-}
-
-/// Eight marks or fewer in a byte, from its top bit on.
-fn eight_marks(marks: &[u8]) -> u8 {
-    let mut byte = 0;
-    for place in 0..8 {
-        let mark = marks.get(place).copied().unwrap_or(0);
-        byte = byte << 1 | u8::from(mark != 0);
-    }
-    byte
-}
 
 /// Random arguments of Read cylinder.
 pub fn wanted_read_cylinder(seed: u64) -> WantedReadCylinder {
@@ -162,7 +110,10 @@ fn any_track(rng: &mut Rng, seed: u64) -> Track {
         1 => damaged(seed),
         2 => jumbled(seed),
         3 => (vec![0xFF; 3_815], vec![1; 3_815]),
-        _ => noise(rng),
+        _ => {
+            let length = random_length(rng);
+            noisy_track(rng, length)
+        }
     };
     for mark in &mut track.1 {
         *mark = u8::from(*mark != 0);
@@ -173,14 +124,6 @@ fn any_track(rng: &mut Rng, seed: u64) -> Track {
     };
     resize(&mut track, length);
     track
-}
-
-/// Any bytes, any of them marked.
-fn noise(rng: &mut Rng) -> Track {
-    let length = random_length(rng);
-    let bits = rng.bytes(length / 8 + 1);
-    let marks = (0..length).map(|place| bits[place / 8] >> (place % 8) & 1);
-    (rng.bytes(length), marks.collect())
 }
 
 /// The track with another length; bytes that it gains are marked.
@@ -375,7 +318,7 @@ fn set_spare_bits(rng: &mut Rng, lengths: &[usize], file: &mut [u8]) {
     let Some((offset, length)) = offsets.get(entry).zip(lengths.get(entry)) else {
         return;
     };
-    let spare = stored_length(*length) * 8 - length * 9;
+    let spare = spare_bits(*length);
     let bits = match rng.chance(70) {
         true => 1 << rng.below(spare.clamp(1, 7)),
         false => (1 << spare.clamp(1, 7)) - 1,

@@ -5,6 +5,7 @@
 mod bit_cells;
 mod block;
 mod cylinder;
+mod cylinder_file;
 mod damage;
 mod jumble;
 mod pairs;
@@ -19,8 +20,10 @@ pub use bit_cells::{
 };
 pub use block::{spoil_block, spoiled, Block, Spoiled};
 pub use cylinder::{
-    cylinder_file, cylinder_of, wanted_read_cylinder, wanted_write_cylinder, Cylinder,
-    WantedReadCylinder, WantedWriteCylinder,
+    wanted_read_cylinder, wanted_write_cylinder, WantedReadCylinder, WantedWriteCylinder,
+};
+pub use cylinder_file::{
+    cylinder_file, cylinder_of, noisy_cylinder, noisy_file, spare_bits, sum_of, tracks_of, Cylinder,
 };
 pub use damage::{damage, damaged, recheck};
 pub use jumble::jumbled;

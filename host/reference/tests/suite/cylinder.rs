@@ -5,31 +5,18 @@ use reference::generate::*;
 use reference::*;
 use std::collections::{BTreeMap, BTreeSet};
 
-/// A track and its marks.
-type Pair = (Vec<u8>, Vec<u8>);
-
 /// Numbers that Read cylinder can give.
 const READ: [u8; 7] = [0, 1, 18, 19, 20, 21, 24];
 /// Numbers that Write cylinder can give.
 const WRITE: [u8; 4] = [0, 1, 18, 24];
 
-/// Buffers full of noise, of these lengths.
-fn noise([tracks, marks, lengths]: [usize; 3]) -> Cylinder {
-    let mut rng = Rng::new(0xC711_0000);
-    Cylinder {
-        tracks: rng.bytes(tracks),
-        marks: rng.bytes(marks),
-        lengths: (0..lengths).map(|_| rng.bits() as u16).collect(),
-    }
-}
-
 /// Read cylinder into noise of these lengths, which stays behind what is read, and whole where it is refused; gives what was read.
 fn read_into(file: &[u8], rooms: [usize; 3]) -> (Answer, Cylinder) {
-    let before = noise(rooms);
+    let before = noisy_cylinder(0, rooms);
     let mut read = before.clone();
     let (done, count) = read_cylinder(file, &mut read.tracks, &mut read.marks, &mut read.lengths);
     assert_eq!(count > 0, done == answer(0, 0), "{done:?}");
-    let sum = read.lengths[..count].iter().map(|&l| usize::from(l)).sum();
+    let sum = sum_of(&read.lengths[..count]);
     assert!(read.tracks.split_off(sum) == before.tracks[sum..]);
     assert!(read.marks.split_off(sum) == before.marks[sum..]);
     assert!(read.lengths.split_off(count) == before.lengths[count..]);
@@ -43,7 +30,7 @@ fn read(file: &[u8]) -> (Answer, Cylinder) {
 
 /// Write cylinder into noise of this length, which stays behind the file, and whole where it is refused; gives the file.
 fn write_into(cylinder: &Cylinder, room: usize) -> (Answer, Vec<u8>) {
-    let before = Rng::new(0xC711_F11E).bytes(room);
+    let before = noisy_file(0, room);
     let mut file = before.clone();
     let Cylinder {
         tracks,
@@ -61,24 +48,10 @@ fn write(cylinder: &Cylinder) -> (Answer, Vec<u8>) {
     write_into(cylinder, 45_094)
 }
 
-/// Tracks of these lengths, with bytes that count up and no mark but the last.
-fn tracks_of(lengths: &[usize]) -> Vec<Pair> {
-    let track = |&length: &usize| {
-        let bytes = (0..length).map(|place| (place * 7 + length) as u8);
-        let marks = (1..=length).map(|place| u8::from(place == length));
-        (bytes.collect(), marks.collect())
-    };
-    lengths.iter().map(track).collect()
-}
-
-/// How many bytes the tracks have.
-fn sum_of(tracks: &[Pair]) -> usize {
-    tracks.iter().map(|(bytes, _)| bytes.len()).sum()
-}
-
 /// Demands that these tracks and this file are read and written as each other, with no byte more than they need.
-fn there_and_back(tracks: &[Pair], file: &[u8], note: &str) {
-    let (cylinder, sum) = (cylinder_of(tracks), sum_of(tracks));
+fn there_and_back(tracks: &[Track], file: &[u8], note: &str) {
+    let cylinder = cylinder_of(tracks);
+    let sum = cylinder.tracks.len();
     let (done, written) = write_into(&cylinder, file.len());
     assert!((done, &written[..]) == (answer(0, 0), file), "{note}");
     let (done, back) = read_into(file, [sum, sum, tracks.len()]);
@@ -165,9 +138,10 @@ fn every_length() {
     for length in 3_815..=4_002_usize {
         let tracks = tracks_of(&[length]);
         let file = cylinder_file(&tracks);
-        let spare = (8 - length % 8) % 8;
+        let spare = spare_bits(length);
         assert_eq!(file.len(), 10 + length + (length + spare) / 8);
-        assert_eq!(file.last(), Some(&(1 << spare)));
+        let lowest = file.last().map(|byte| byte.trailing_zeros() as usize);
+        assert_eq!(lowest, Some(spare), "{length}");
         there_and_back(&tracks, &file, &format!("L {length}"));
     }
 }
@@ -183,7 +157,7 @@ fn answer_21() {
             let last_bytes = [first + length + length.div_ceil(8) - 1, file.len() - 1];
             for place in last_bytes {
                 for bit in 0..8 {
-                    let spare = 7 - (length - 1) % 8;
+                    let spare = spare_bits(length);
                     spare_counts.insert(spare);
                     let mut file = file.clone();
                     file[place] ^= 1 << bit;
@@ -208,20 +182,19 @@ fn answer_20_for_the_header() {
     }
 }
 
-/// Every number of tracks and many zero fields, and files that are laid out for none, eleven and twelve tracks.
+/// Numbers of tracks next to the range and far from it, many zero fields, and files that are laid out for none, eleven and twelve tracks.
 #[test]
 fn answer_18_reading() {
     let whole = cylinder_file(&tracks_of(&[3_906]));
-    let (mut header, mut refused) = ([0; 4], 0);
-    for count in 0..=0xFFFF_u16 {
+    for count in [
+        0, 1, 10, 11, 12, 255, 256, 257, 266, 0x0A00, 0x7FFF, 0xFFFF_u16,
+    ] {
+        let mut header = [0; 4];
         header[..2].copy_from_slice(&count.to_be_bytes());
         // The header alone: a number in rule lacks its table.
         let number = if (1..=10).contains(&count) { 20 } else { 18 };
-        let done = read_into(&header, [8, 8, 2]).0;
-        assert_eq!(done, answer(number, 0), "{count}");
-        refused += usize::from(number == 18);
+        assert_eq!(read(&header).0, answer(number, 0), "{count}");
     }
-    assert_eq!(refused, 65_526);
     for field in (1..=0xFFFF_u16).step_by(7).chain([0x0100, 0x8000, 0x0080]) {
         let mut file = whole.clone();
         file[2..4].copy_from_slice(&field.to_be_bytes());
@@ -279,19 +252,25 @@ fn answer_1_reading() {
     }
 }
 
-/// Every bit of every offset.
+/// Each offset one less, one more and with its top bit set, and lengths that the offsets do not follow.
 #[test]
 fn answer_19() {
     for count in [1, 3, 10] {
-        let file = cylinder_file(&tracks_of(&vec![3_906; count]));
-        for (entry, bit) in (0..count).flat_map(|entry| (0..32).map(move |bit| (entry, bit))) {
-            let mut file = file.clone();
-            file[6 + 6 * entry + bit / 8] ^= 1 << (bit % 8);
-            assert_eq!(read(&file).0, answer(19, 0), "{entry} {bit}");
+        let whole = cylinder_file(&tracks_of(&vec![3_906; count]));
+        for entry in (0..count).map(|entry| 6 + 6 * entry..10 + 6 * entry) {
+            let right = u32::from_be_bytes(whole[entry.clone()].try_into().unwrap());
+            for offset in [right - 1, right + 1, right | 1 << 31] {
+                let mut file = whole.clone();
+                file[entry.clone()].copy_from_slice(&offset.to_be_bytes());
+                assert_eq!(read(&file).0, answer(19, 0), "{entry:?} {offset}");
+                // All offsets are judged before the file's length.
+                file.pop();
+                assert_eq!(read(&file).0, answer(19, 0), "{entry:?} {offset}");
+            }
         }
     }
     // A length in range that the offsets behind it do not follow; of the last track only the file's length tells.
-    let mut file = cylinder_file(&tracks_of(&[3_906, 3_906]));
+    let mut file = cylinder_file(&vec![(vec![0x11; 3_906], vec![0; 3_906]); 2]);
     file[5] += 1;
     assert_eq!(read(&file).0, answer(19, 0));
     file[5] -= 1;
@@ -320,6 +299,12 @@ fn answer_20_for_the_file() {
         let mut file = whole.clone();
         file.extend(&whole);
         assert_eq!(read(&file).0, answer(20, 0), "{count} twice");
+        // The length is judged before the spare bits.
+        let mut file = whole.clone();
+        file[4 + 6 * count + 4_394] |= 1;
+        assert_eq!(read(&file).0, answer(21, 0), "{count}");
+        file.push(0);
+        assert_eq!(read(&file).0, answer(20, 0), "{count}");
         // A track of 3,906 bytes takes 4,395.
         let mut file = whole.clone();
         let first = 4 + 6 * count;
@@ -333,8 +318,10 @@ fn answer_20_for_the_file() {
 fn answer_24_reading() {
     for lengths in [&[3_815][..], &[3_815, 4_002], &[3_999; 10]] {
         let tracks = tracks_of(lengths);
-        let (file, sum, count) = (cylinder_file(&tracks), sum_of(&tracks), lengths.len());
-        let number = |rooms| read_into(&file, rooms).0;
+        let (cylinder, file) = (cylinder_of(&tracks), cylinder_file(&tracks));
+        let (sum, count) = (cylinder.tracks.len(), lengths.len());
+        let mut spoiled = file.clone();
+        spoiled[4 + 6 * count + lengths[0] + lengths[0] / 8] |= 1;
         for rooms in [
             [sum - 1, sum, count],
             [sum, sum - 1, count],
@@ -345,7 +332,9 @@ fn answer_24_reading() {
             [0, 0, 0],
             [sum - 1, sum + 1, count + 1],
         ] {
-            assert_eq!(number(rooms), answer(24, 0), "{rooms:?}");
+            assert_eq!(read_into(&file, rooms).0, answer(24, 0), "{rooms:?}");
+            // The spare bits are judged before.
+            assert_eq!(read_into(&spoiled, rooms).0, answer(21, 0), "{rooms:?}");
         }
         for rooms in [
             [sum, sum, count],
@@ -354,53 +343,9 @@ fn answer_24_reading() {
             [sum, sum, count + 1],
             [sum + 4_002, sum + 3_906, 300],
         ] {
-            assert_eq!(number(rooms), answer(0, 0), "{rooms:?}");
-            let back = read_into(&file, rooms).1;
-            assert!(back == cylinder_of(&tracks), "{rooms:?}");
+            let (done, back) = read_into(&file, rooms);
+            assert!((done, &back) == (answer(0, 0), &cylinder), "{rooms:?}");
         }
-    }
-}
-
-/// A file and the buffers that are lent for it.
-type Reading = (Vec<u8>, [usize; 3]);
-
-/// The number that a fault has, and what makes it.
-type Fault = (u8, fn(&mut Reading));
-
-/// The faults of a file of two tracks, in the order in which they are told.
-const FAULTS: [Fault; 8] = [
-    (20, |(file, _)| file.truncate(3)),
-    (18, |(file, _)| file[1] = 11),
-    (20, |(file, _)| file.truncate(15)),
-    (1, |(file, _)| file[4] = 0),
-    (19, |(file, _)| file[9] ^= 1),
-    (20, |(file, _)| file.truncate(file.len() - 1)),
-    (21, |(file, _)| file[16 + 4_292 - 1] |= 1),
-    (24, |(_, rooms)| rooms[0] -= 1),
-];
-
-/// Of two faults that stand together the first in the order is told, and so of all from one on.
-#[test]
-fn order_of_the_answers_reading() {
-    let tracks = tracks_of(&[3_815, 3_906]);
-    let sound = (cylinder_file(&tracks), [7_721, 7_721, 2]);
-    assert_eq!(read_into(&sound.0, sound.1).0, answer(0, 0));
-    for (index, (number, fault)) in FAULTS.into_iter().enumerate() {
-        let mut one = sound.clone();
-        fault(&mut one);
-        assert_eq!(read_into(&one.0, one.1).0, answer(number, 0), "{index}");
-        for (later, (_, other)) in FAULTS.iter().enumerate().skip(index + 1) {
-            let mut two = sound.clone();
-            other(&mut two);
-            fault(&mut two);
-            let done = read_into(&two.0, two.1).0;
-            assert_eq!(done, answer(number, 0), "{index} and {later}");
-        }
-        let mut all = sound.clone();
-        for (_, fault) in FAULTS[index..].iter().rev() {
-            fault(&mut all);
-        }
-        assert_eq!(read_into(&all.0, all.1).0, answer(number, 0), "{index}");
     }
 }
 
@@ -491,7 +436,7 @@ fn answer_24_writing() {
     for lengths in [&[3_815][..], &[3_816], &[3_815, 4_002], &[3_999; 10]] {
         let tracks = tracks_of(lengths);
         let (cylinder, file) = (cylinder_of(&tracks), cylinder_file(&tracks));
-        for room in [0, 4, sum_of(&tracks), file.len() - 1] {
+        for room in [0, 4, cylinder.tracks.len(), file.len() - 1] {
             assert_eq!(write_into(&cylinder, room).0, answer(24, 0), "{room}");
         }
         for room in [file.len(), file.len() + 1, 60_000] {
@@ -564,7 +509,7 @@ fn table_of(file: &[u8]) -> Vec<(usize, usize)> {
 fn spare_bits_set(file: &[u8]) -> u32 {
     let set_in = |(length, offset): (usize, usize)| {
         let last = file[offset + length + length.div_ceil(8) - 1];
-        let spare = 7 - (length - 1) % 8;
+        let spare = spare_bits(length);
         (last & ((1 << spare) - 1)).count_ones()
     };
     table_of(file).into_iter().map(set_in).sum()
@@ -648,7 +593,7 @@ fn kind_of_writing(w: &WantedWriteCylinder, number: u8) -> &'static str {
         marks,
         lengths,
     } = &w.cylinder;
-    let sum: usize = lengths.iter().map(|&length| usize::from(length)).sum();
+    let sum = sum_of(lengths);
     let in_range = |length| (3_815..=4_002).contains(length);
     match number {
         18 if lengths.is_empty() => "18 for none",
@@ -690,7 +635,7 @@ fn wanted_reasons_are_varied() {
 #[test]
 fn sound_tracks_there_and_back() {
     for seed in 0..100 {
-        let tracks: Vec<Pair> = (0..seed % 10 + 1)
+        let tracks: Vec<Track> = (0..seed % 10 + 1)
             .map(|head| sound(10 * seed + head))
             .collect();
         let file = cylinder_file(&tracks);
