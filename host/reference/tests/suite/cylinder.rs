@@ -58,50 +58,59 @@ fn there_and_back(tracks: &[Track], file: &[u8], note: &str) {
     assert!((done, back) == (answer(0, 0), cylinder), "{note}");
 }
 
+/// Three tracks, each of one value, with a few marks.
+fn worked_tracks() -> Vec<Track> {
+    let track = |length, value, marked: &[usize]| {
+        let mut marks = vec![0; length];
+        marked.iter().for_each(|&place| marks[place] = 1);
+        (vec![value; length], marks)
+    };
+    vec![
+        track(3_815, 0x11, &[0, 7, 8, 3_814]),
+        track(3_906, 0x22, &[3_905]),
+        track(4_002, 0x33, &[4, 4_001]),
+    ]
+}
+
+/// Header and table of their file, worked out by hand.
+const WORKED_TABLE: [u8; 22] = [
+    0x00, 0x03, 0x00, 0x00, // three tracks
+    0x0E, 0xE7, 0x00, 0x00, 0x00, 0x16, // 3,815 bytes at 22
+    0x0F, 0x42, 0x00, 0x00, 0x10, 0xDA, // 3,906 bytes at 4,314
+    0x0F, 0xA2, 0x00, 0x00, 0x22, 0x05, // 4,002 bytes at 8,709
+];
+
+/// The value of each track, where it starts, where its marks do, and where they end.
+const WORKED_PARTS: [(u8, usize, usize, usize); 3] = [
+    (0x11, 22, 3_837, 4_314),
+    (0x22, 4_314, 8_220, 8_709),
+    (0x33, 8_709, 12_711, 13_212),
+];
+
+/// The bytes of their marks that are not zero.
+const WORKED_MARKS: [(usize, u8); 6] = [
+    (3_837, 0x81),
+    (3_838, 0x80),
+    (4_313, 0x02),
+    (8_708, 0x40),
+    (12_711, 0x08),
+    (13_211, 0x40),
+];
+
 /// Three tracks with a few marks, and the bytes of their file that were worked out by hand.
 #[test]
 fn worked_file() {
-    let (mut tracks, lengths) = (vec![], [3_815, 3_906, 4_002]);
-    let marked: [&[usize]; 3] = [&[0, 7, 8, 3_814], &[3_905], &[4, 4_001]];
-    for ((length, value), places) in lengths.into_iter().zip([0x11, 0x22, 0x33]).zip(marked) {
-        let mut marks = vec![0; length];
-        places.iter().for_each(|&place| marks[place] = 1);
-        tracks.push((vec![value; length], marks));
-    }
+    let tracks = worked_tracks();
     let (done, file) = write(&cylinder_of(&tracks));
     assert_eq!((done, file.len()), (answer(0, 0), 13_212));
-    let header_and_table = [
-        0x00, 0x03, 0x00, 0x00, // three tracks
-        0x0E, 0xE7, 0x00, 0x00, 0x00, 0x16, // 3,815 bytes at 22
-        0x0F, 0x42, 0x00, 0x00, 0x10, 0xDA, // 3,906 bytes at 4,314
-        0x0F, 0xA2, 0x00, 0x00, 0x22, 0x05, // 4,002 bytes at 8,709
-    ];
-    assert_eq!(file[..22], header_and_table);
-    // Where each track starts, where its marks do, and where they end.
-    let parts = [
-        (22, 3_837, 4_314),
-        (4_314, 8_220, 8_709),
-        (8_709, 12_711, 13_212),
-    ];
-    for ((start, end, _), value) in parts.into_iter().zip([0x11, 0x22, 0x33]) {
-        assert!(file[start..end].iter().all(|&byte| byte == value));
+    assert_eq!(file[..22], WORKED_TABLE);
+    let mut set = vec![];
+    for (value, start, marks, end) in WORKED_PARTS {
+        assert!(file[start..marks].iter().all(|&byte| byte == value));
+        set.extend((marks..end).filter(|&place| file[place] != 0));
     }
-    let marks = [
-        (3_837, 0x81),
-        (3_838, 0x80),
-        (4_313, 0x02),
-        (8_708, 0x40),
-        (12_711, 0x08),
-        (13_211, 0x40),
-    ];
-    for (start, end) in parts.map(|(_, start, end)| (start, end)) {
-        let set = (start..end).filter(|&place| file[place] != 0);
-        let here = marks
-            .into_iter()
-            .filter(|&(place, _)| (start..end).contains(&place));
-        let set: Vec<_> = set.map(|place| (place, file[place])).collect();
-        assert_eq!(set, here.collect::<Vec<_>>());
-    }
+    let set: Vec<_> = set.into_iter().map(|place| (place, file[place])).collect();
+    assert_eq!(set, WORKED_MARKS);
     there_and_back(&tracks, &file, "worked");
     assert!(file == cylinder_file(&tracks));
 }
@@ -368,7 +377,7 @@ fn answer_18_writing() {
     }
 }
 
-/// Lengths next to the range, in each place of the list, and slices next to their sum.
+/// Lengths next to the range, in each place of the list.
 #[test]
 fn answer_1_writing() {
     for count in [1, 2, 10] {
@@ -383,6 +392,23 @@ fn answer_1_writing() {
                 assert_eq!(write_into(&cylinder, 0).0, answer(number, 0));
             }
         }
+    }
+    // Two lengths out of range, whose sum is that of two in range.
+    let mut cylinder = cylinder_of(&tracks_of(&[3_906, 3_906]));
+    for (lengths, number) in [
+        ([3_815, 3_997], 0),
+        ([3_810, 4_002], 1),
+        ([3_809, 4_003], 1),
+    ] {
+        cylinder.lengths = lengths.to_vec();
+        assert_eq!(write(&cylinder).0, answer(number, 0), "{lengths:?}");
+    }
+}
+
+/// Slices next to the sum of the lengths, and empty ones.
+#[test]
+fn slices_of_another_length() {
+    for count in [1, 2, 10] {
         let right = cylinder_of(&tracks_of(&vec![3_906; count]));
         let sum = 3_906 * count;
         for (tracks, marks) in [
@@ -401,16 +427,6 @@ fn answer_1_writing() {
             assert_eq!(write(&cylinder).0, answer(1, 0), "{tracks} {marks}");
             assert_eq!(write_into(&cylinder, 0).0, answer(1, 0));
         }
-    }
-    // Two lengths out of range, whose sum is that of two in range.
-    let mut cylinder = cylinder_of(&tracks_of(&[3_906, 3_906]));
-    for (lengths, number) in [
-        ([3_815, 3_997], 0),
-        ([3_810, 4_002], 1),
-        ([3_809, 4_003], 1),
-    ] {
-        cylinder.lengths = lengths.to_vec();
-        assert_eq!(write(&cylinder).0, answer(number, 0), "{lengths:?}");
     }
 }
 
