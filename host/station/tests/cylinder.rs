@@ -77,18 +77,9 @@ fn answer_of<T>(done: &Result<T, Answer>) -> Answer {
 /// Read cylinder by both, into buffers of equal noise, which stays behind what is read, and whole where it is refused; gives what was read.
 fn read_by_both(file: &[u8], before: &Cylinder, note: &str) -> Result<Cylinder, Answer> {
     let (mut ours, mut theirs) = (before.clone(), before.clone());
-    let Cylinder {
-        tracks,
-        marks,
-        lengths,
-    } = &mut ours;
-    let done = station::read_cylinder(file, tracks, marks, lengths);
-    let Cylinder {
-        tracks,
-        marks,
-        lengths,
-    } = &mut theirs;
-    let expected = reference::read_cylinder(file, tracks, marks, lengths);
+    let (a, b) = (&mut ours, &mut theirs);
+    let done = station::read_cylinder(file, &mut a.tracks, &mut a.marks, &mut a.lengths);
+    let expected = reference::read_cylinder(file, &mut b.tracks, &mut b.marks, &mut b.lengths);
     assert_eq!(done, given(expected), "{note}");
     same_cylinder(&ours, &theirs, note);
     let count = done.unwrap_or(0);
@@ -103,13 +94,9 @@ fn read_by_both(file: &[u8], before: &Cylinder, note: &str) -> Result<Cylinder, 
 /// Write cylinder by both, into buffers of equal noise, which stays behind the file, and whole where it is refused; gives the file.
 fn write_by_both(cylinder: &Cylinder, before: &[u8], note: &str) -> Result<Vec<u8>, Answer> {
     let (mut ours, mut theirs) = (before.to_vec(), before.to_vec());
-    let Cylinder {
-        tracks,
-        marks,
-        lengths,
-    } = cylinder;
-    let done = station::write_cylinder(tracks, marks, lengths, &mut ours);
-    let expected = reference::write_cylinder(tracks, marks, lengths, &mut theirs);
+    let c = cylinder;
+    let done = station::write_cylinder(&c.tracks, &c.marks, &c.lengths, &mut ours);
+    let expected = reference::write_cylinder(&c.tracks, &c.marks, &c.lengths, &mut theirs);
     assert_eq!(done, given(expected), "{note}");
     same("file", &ours, &theirs, note);
     let length = done.unwrap_or(0);

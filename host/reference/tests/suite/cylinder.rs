@@ -32,12 +32,8 @@ fn read(file: &[u8]) -> (Answer, Cylinder) {
 fn write_into(cylinder: &Cylinder, room: usize) -> (Answer, Vec<u8>) {
     let before = noisy_file(0, room);
     let mut file = before.clone();
-    let Cylinder {
-        tracks,
-        marks,
-        lengths,
-    } = cylinder;
-    let (done, length) = write_cylinder(tracks, marks, lengths, &mut file);
+    let c = cylinder;
+    let (done, length) = write_cylinder(&c.tracks, &c.marks, &c.lengths, &mut file);
     assert_eq!(length > 0, done == answer(0, 0), "{done:?}");
     assert!(file.split_off(length) == before[length..], "{done:?}");
     (done, file)
