@@ -228,20 +228,23 @@ fn written_tracks_survive() {
     tally.finish(1_000, &[0]);
 }
 
-/// Every length in range goes there and back; of the last byte of marks exactly the spare bits are refused.
+/// Every length in range goes there and back, as the only track, the first, one between others and the last; of its last byte of marks exactly the spare bits are refused.
 #[test]
 fn every_length_and_its_spare_bits() {
     let (room, mut spare_counts) = (room_for_any(), BTreeSet::new());
     for length in 3_815..=4_002 {
-        for lengths in [&[length][..], &[length, 3_906]] {
-            let tracks = tracks_of(lengths);
+        for (before, behind) in [(0, 0), (0, 1), (1, 1), (1, 0)] {
+            let lengths = [vec![3_906; before], vec![length], vec![3_906; behind]].concat();
+            let tracks = tracks_of(&lengths);
             let (mut file, cylinder) = (cylinder_file(&tracks), cylinder_of(&tracks));
             let note = format!("{lengths:?}");
             written_to(&cylinder, &file, 0, &note);
             read_from(&file, &cylinder, 0, &note);
             let spare = spare_bits(length);
             spare_counts.insert(spare);
-            let last = 4 + 6 * lengths.len() + length + length.div_ceil(8) - 1;
+            // A track of 3,906 bytes takes 4,395.
+            let start = 4 + 6 * lengths.len() + 4_395 * before;
+            let last = start + length + length.div_ceil(8) - 1;
             for bit in 0..8 {
                 file[last] ^= 1 << bit;
                 let number = if bit < spare { 21 } else { 0 };
