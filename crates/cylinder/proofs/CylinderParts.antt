@@ -13,7 +13,7 @@ use Rattle.base.proofs.Tests.{and-make}
 use Rattle.format.specs.Lent.{lengthRight, marksLegal, lentForWriting, lentForReading}
 use Rattle.format.proofs.Base.Marks.{mark-at, marks-at}
 use Rattle.format.proofs.Track.Pairs.{lent-marks, lent-legal, lent-length}
-use Rattle.cylinder.specs.Cylinder.{Cylinder, trackCount, lengthOf, startOf, partOf, trackOf, trackMarksOf, cylinderOf, lengthsRight, cylinderLent}
+use Rattle.cylinder.specs.Cylinder.{Cylinder, trackCount, lengthOf, startOf, partOf, trackOf, trackMarksOf, cylinderOf, TracksAre, lengthsRight, cylinderLent}
 use Rattle.cylinder.proofs.Sizes.{cylinder-lent, length-part}
 use Rattle.cylinder.proofs.Parts.{join-keeps, part-keeps}
 
@@ -97,10 +97,6 @@ tracks-cylinder n t m e =
       listed-lent n l t m (λ k h. lent-length (t k) (m k) (e k h) .1) long marked (λ k h. lent-legal (t k) (m k) (e k h)),
       λ k h. (part-listed n l t long k h, part-listed n l m marked k h),
     )
-
--- The cylinder c has n tracks, which are t with the marks m.
-abbrev pub TracksAre : Cylinder → ℕ → (ℕ → List ℕ) → (ℕ → List ℕ) → Type 0
-TracksAre c n t m = (trackCount c ≡ n) × ((k : ℕ) → k < n → (trackOf c k ≡ t k) × (trackMarksOf c k ≡ m k))
 
 -- A cylinder that is lent within the rule is the one that its tracks and marks make.
 pub lent-tracks : (c : Cylinder) (n : ℕ) (t m : ℕ → List ℕ) → cylinderLent c ≡ true → TracksAre c n t m → c ≡ cylinderOf n t m

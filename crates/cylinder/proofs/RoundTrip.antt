@@ -14,7 +14,7 @@ use Rattle.format.specs.Answer.{lentWrong, headerWrong, bufferTooShort}
 use Rattle.format.specs.Judged.{good, require}
 use Rattle.format.specs.Lent.{lentForReading}
 use Rattle.format.proofs.Base.Judged.{good-inj, then-good, require-good}
-use Rattle.cylinder.specs.Cylinder.{Cylinder, trackCount, trackOf, trackMarksOf, cylinderOf, trackCountRight, cylinderLent}
+use Rattle.cylinder.specs.Cylinder.{Cylinder, trackCount, trackOf, trackMarksOf, cylinderOf, TracksAre, trackCountRight, cylinderLent}
 use Rattle.cylinder.specs.File.{cylinderFile}
 use Rattle.cylinder.specs.Writing.{writeCylinder}
 use Rattle.cylinder.specs.Reading.{trackIn, marksIn, judgeFile, cylinderIn, Room, Takes, roomFor, readCylinder}
@@ -22,7 +22,7 @@ use Rattle.cylinder.proofs.Sound.{SoundFile, file-sound, sound-file}
 use Rattle.cylinder.proofs.Sizes.{cylinder-lent}
 use Rattle.cylinder.proofs.WrittenFile.{cylinder-read, file-read}
 use Rattle.cylinder.proofs.Parts.{join-keeps}
-use Rattle.cylinder.proofs.CylinderParts.{tracks-cylinder, TracksAre, lent-tracks}
+use Rattle.cylinder.proofs.CylinderParts.{tracks-cylinder, lent-tracks}
 use Rattle.cylinder.proofs.FileBytes.{file-bytes}
 use Rattle.cylinder.proofs.HeldCylinder.{held-count, track-held, room-takes, lent-held, count-held, file-back}
 

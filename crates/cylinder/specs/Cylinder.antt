@@ -1,5 +1,6 @@
 -- Several tracks lent together: one list with the bytes of all, one with their marks, one with their Ls.
-use Prim.Native.Nat.{ℕ}
+use mathlib.Core.Path.{_≡_}
+use Prim.Native.Nat.{ℕ, _<_}
 use mathlib.Core.Bool.{Bool, _&&_}
 use mathlib.Core.List.{List}
 use lib.ListN.{length, take, drop, getD}
@@ -40,6 +41,10 @@ trackMarksOf c k = partOf (c .lengths) (c .marks) k
 -- The cylinder of n tracks t with the marks m.
 abbrev pub cylinderOf : ℕ → (ℕ → List ℕ) → (ℕ → List ℕ) → Cylinder
 cylinderOf n t m = record { tracks = joinTo t n; marks = joinTo m n; lengths = listTo (λ k. length (t k)) n }
+
+-- The cylinder c has n tracks, which are t with the marks m.
+abbrev pub TracksAre : Cylinder → ℕ → (ℕ → List ℕ) → (ℕ → List ℕ) → Type 0
+TracksAre c n t m = (trackCount c ≡ n) × ((k : ℕ) → k < n → (trackOf c k ≡ t k) × (trackMarksOf c k ≡ m k))
 
 -- The number of tracks is 1 to 10.
 unfoldable pub trackCountRight : ℕ → Bool
