@@ -155,7 +155,7 @@ pub fn find_home(track: &[u8], marks: &[u8]) -> Found
 }
 
 // How many cells stand from place p on before the first marked one.
-fn unmarked_run(track: &[u8], marks: &[u8], p: usize) -> usize
+pub fn unmarked_run(track: &[u8], marks: &[u8], p: usize) -> usize
     ensures { λ r. ⌜ r ≡ unmarkedRun (drop p (cells (now (track .entry)) (now (marks .entry)))) ⌝ }
 {
     let left = cells_from(track, marks, p);
