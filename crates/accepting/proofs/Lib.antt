@@ -2,6 +2,8 @@
 pub mod AcceptBytes
 pub mod AcceptHome
 pub mod AcceptAnswers
+pub mod Starts
+pub mod MarkToMark
 pub mod AcceptSpans
 pub mod AcceptFirst
 pub mod AcceptNumbers

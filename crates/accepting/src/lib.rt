@@ -26,6 +26,7 @@ use sector::Named;
 use sectors::sector_at;
 
 pub mod home;
+pub mod marks;
 
 pub use home::HomeJudged;
 pub use home::judge_home;
