@@ -21,6 +21,7 @@ use Rattle.format.proofs.Sector.ReadSector.{read-inv}
 use Rattle.format.proofs.Sector.ReadsAs.{Reads, read-reads, reads-read}
 use Rattle.format.proofs.Spans.Marks.{marks-clean}
 use Rattle.format.proofs.Spans.StrayMark.{marks-stray}
+use Rattle.accepting.specs.Starts.{startsIn}
 use Rattle.accepting.specs.Accepting.{NoStrayMark, numbersIn}
 use Rattle.accepting.proofs.AcceptAnswers.{sector-zero}
 use Rattle.format.proofs.Base.Judged.{refusal-stays, answer-then, require-zero}
@@ -60,19 +61,29 @@ numbers-placed h i x p (g ∷ gs) (s ∷ ss) seen e =
     let n : s .number ≡ countNumber (drop (openingLength (isFirst i)) g) = ap (λ (z : Sector). z .number) (read-inv h i x p (none gs) g s (e .0) .sector-is) in
     rw (n, numbers-placed h (suc i) (settle x s) (p + length g) gs ss (countNumber (drop (openingLength (isFirst i)) g) ∷ seen) (e .1))
 
--- A track that is lent within the rule, on which no mark is stray behind a home at q.
-pub unstrayed : (q : ℕ) (t m : List ℕ) → q ≤ 37 → lentForReading t m ≡ true → judgeMarks (q + 25 + 18) 0 0 (cells t m) ≡ good tt → NoStrayMark (q + 25) t m
+-- What is known of the lengths of a pair that is lent within the rule.
+record Lent (t m : List ℕ) : Type 0 where
+  lengths : length m ≡ length t
+  least : 3815 ≤ length t
+  most : length t ≤ 4002
+
+lent-lengths : (t m : List ℕ) → lentForReading t m ≡ true → Lent t m
 unfolding lentForReading lentForWriting lengthRight
-unstrayed q t m l e j =
+lent-lengths t m e =
     let w = and-both (lentForWriting (length t) (length m)) (marksLegal m) e in
     let k = and-both (lengthRight (length t)) (eqb (length m) (length t)) (w .0) in
     let r = and-both (leb 3815 (length t)) (leb (length t) 4002) (k .0) in
-    record {
-      lengths = eqb-true (length m) (length t) (k .1);
-      within = leb-true (length t) 4002 (r .1);
-      reach = omega (arith, leb-true 3815 (length t) (r .0));
-      judged = j;
-    }
+    record { lengths = eqb-true (length m) (length t) (k .1); least = leb-true 3815 (length t) (r .0); most = leb-true (length t) 4002 (r .1) }
+
+-- It has at most 4,002 bytes.
+pub lent-longest : (t m : List ℕ) → lentForReading t m ≡ true → length t ≤ 4002
+lent-longest t m e = lent-lengths t m e .most
+
+-- A track that is lent within the rule, on which no mark is stray behind a home at q.
+pub unstrayed : (q : ℕ) (t m ns : List ℕ) → q ≤ 37 → lentForReading t m ≡ true → judgeMarks (q + 25 + 18) 0 0 (cells t m) ≡ good tt → ns ≡ startsIn 0 (cells t m) → NoStrayMark (q + 25) t m ns
+unstrayed q t m ns l e j s =
+    let k = lent-lengths t m e in
+    record { lengths = k .lengths; within = k .most; reach = omega (arith, k .least); judged = j; places = s }
 
 -- The track c behind the home h.
 module _ (h : Home) (c : List ℕ) where

@@ -4,8 +4,8 @@ use Prim.Native.Nat.{ℕ, suc, _+_, _-_, _≤_, _<_}
 use native.Mathlib.Omega.{arith}
 use mathlib.Core.Bool.{Bool, true, false, not, _||_}
 use mathlib.Core.List.{List, [], _∷_}
-use lib.ListN.{length, getD, drop, set, replicate, length-drop, length-set, length-replicate, getD-replicate}
-use lib.Seq.{drop-drop, getD-set-same, getD-set-other}
+use lib.ListN.{length, getD, take, drop, set, replicate, length-drop, length-set, length-replicate, getD-replicate}
+use lib.Seq.{drop-drop, getD-drop, getD-set-same, getD-set-other}
 use lib.Dec.{eqb}
 use borrow.Author.Tests.{eq-eqb, ne-eqb, eqb-true, eqb-false, le-leb}
 use Rattle.format.specs.Answer.{sectorRepeated}
@@ -19,13 +19,9 @@ use Rattle.format.specs.Accept.{among}
 use Rattle.base.proofs.Tests.{cases, and-both}
 use Rattle.format.proofs.Cells.Opening.{unmarked-at, unmarked-drop}
 use Rattle.format.proofs.Spans.Marks.{marks-clean}
-use Rattle.format.proofs.Track.Pairs.{drop-cells}
-use Rattle.format.proofs.Find.CandidateBytes.{span-rest-bytes}
-use Rattle.sectors.specs.SectorAt.{SectorAt, sectorFields, lastFirstCount, opensFirst, restAt, sectorAt}
-use Rattle.sectors.proofs.Rest.{opens-low, opens-high}
 use Rattle.accepting.specs.Accepting.{LaterSpans, NoStrayMark, numbersIn}
 use Rattle.accepting.proofs.AcceptSpans.{Front, front, no-span}
-use Rattle.accepting.proofs.AcceptFirst.{First, first-front}
+use Rattle.accepting.proofs.AcceptFirst.{First}
 
 -- 13 by the spans of later sectors, where the flags f say which numbers were passed.
 unfoldable pub flagged : List ℕ → ℕ → List (List ℕ) → Judged (Unit {0})
@@ -71,103 +67,57 @@ pub flagged-none : (f : List ℕ) (p : ℕ) (t m : List ℕ) → length t ≤ p 
 unfolding flagged
 flagged-none f p t m l = rw (no-span (drop p t) (drop p m) (omega (arith, length-drop p t)))
 
--- The number of the sector whose count opens at place p.
-number-at : (first : Bool) (p : ℕ) (c : List ℕ) → p ≤ 4002 → opensFirst p ≡ first → sectorAt p c .number ≡ countNumber (spanRest (openingLength first) (drop p c))
-unfolding sectorAt sectorFields restAt
-number-at first p c l f = rw (le-leb p 4002 l, f)
+-- The place at i + 1 of a list is the second of what is left from i on.
+getD-next : (ns : List ℕ) (i d : ℕ) → getD (drop i ns) 1 d ≡ getD ns (i + 1) d
+getD-next ns i d = getD-drop i ns 1 d
 
--- Where the sector behind the one at place p starts.
-next-at : (first : Bool) (p : ℕ) (c : List ℕ) → p ≤ 4002 → opensFirst p ≡ first → sectorAt p c .next ≡ p + spanLength (openingLength first) (drop p c)
-unfolding sectorAt sectorFields
-next-at first p c l f = rw (le-leb p 4002 l, f)
+-- The span of the later sector at place q, of n cells, where the places from i on are those of the spans that are left.
+pub ahead : (t m ns : List ℕ) (i q n : ℕ) → LaterSpans q (drop q t) (drop q m) (drop i ns) → q < length t → n ≡ getD ns (i + 1) (length t) - q
+    → Front q n (drop q t) (drop q m) (drop i ns)
+ahead t m ns i q n r l e =
+    let k : q + length (drop q t) ≡ length t = omega (arith, length-drop q t) in
+    front q (drop q t) (drop q m) (drop i ns) n r (rw (k, getD-next ns i (length t)) e) (omega (arith, length-drop q t))
 
--- What a later sector at place q tells: its number, and where the next one starts.
-pub record Passed (t m : List ℕ) (q number next : ℕ) : Type 0 where
-  pub front-is : Front q (next - q) (drop q t) (drop q m)
-  pub number-is : number ≡ countNumber (drop 8 (front-is .span))
-  pub further : q + 8 ≤ next
-  pub within : next ≤ length t
-
--- The later sector x at place q, where what is left starts with it.
-pub passed : (t m : List ℕ) (q : ℕ) (x : SectorAt) → x ≡ sectorAt q (cells t m) → lastFirstCount < q → q < length t → length t ≤ 4002 → LaterSpans q (drop q t) (drop q m)
-    → Passed t m q (x .number) (x .next)
-passed t m q x e behind l w r =
-    let c : List ℕ = cells (drop q t) (drop q m) in
-    let d : drop q (cells t m) ≡ c = drop-cells q t m in
-    let n : x .next ≡ q + spanLength 8 c =
-    ap (λ (z : SectorAt). z .next) e ∙ next-at false q (cells t m) (omega arith) (opens-high q behind) ∙ ap (λ (z : List ℕ). q + spanLength 8 z) d in
-    let k : x .next - q ≡ spanLength 8 c = omega arith in
-    let f : Front q (x .next - q) (drop q t) (drop q m) = front q (drop q t) (drop q m) (x .next - q) r k (omega (arith, length-drop q t)) in
-    let b : spanRest 8 c ≡ drop 8 (f .span) =
-    span-rest-bytes 8 0 (x .next - q - 8) (drop q t) (drop q m) (ap (λ (j : ℕ). j - 8) k) ∙ f .bytes in
-    record {
-      front-is = f;
-      number-is = ap (λ (z : SectorAt). z .number) e ∙ number-at false q (cells t m) (omega arith) (opens-high q behind) ∙ ap (λ (z : List ℕ). countNumber z) (ap (spanRest 8) d ∙ b);
-      further = omega (arith, f .opening);
-      within = omega (arith, f .fits, length-drop q t);
-    }
-
-module _ (t m : List ℕ) (q number next : ℕ) (s : Passed t m q number next) where
+module _ (t m ns : List ℕ) (i q n : ℕ) (f : Front q n (drop q t) (drop q m) (drop i ns)) where
   -- What is left behind it.
-  pub passed-rest : LaterSpans next (drop next t) (drop next m)
-  passed-rest =
-      let k : q + (next - q) ≡ next = omega (arith, s .further) in
-      rw (drop-drop (next - q) q t, drop-drop (next - q) q m, k) at (s .front-is .rest)
+  pub ahead-rest : LaterSpans (q + n) (drop (q + n) t) (drop (q + n) m) (drop (i + 1) ns)
+  ahead-rest = rw (drop-drop n q t, drop-drop n q m, drop-drop 1 i ns) at (f .rest)
 
-  -- Its number was passed before.
-  pub passed-repeated : (f : List ℕ) → (getD f number 0 ≡ 0 → ⊥) → flagged f q (laterSpans (cells (drop q t) (drop q m))) ≡ refused (sectorRepeated q)
-  unfolding flagged
-  passed-repeated f h = rw (s .front-is .cut, ← s .number-is, ne-eqb (getD f number 0) 0 h)
+  module _ (number : ℕ) (e : number ≡ getD (take (q + n - (q + 8)) (drop (q + 8) t)) 5 0) where
+    -- Its number.
+    number-is : number ≡ countNumber (drop 8 (f .span))
+    number-is =
+        let k : q + n - (q + 8) ≡ n - 8 = omega arith in
+        let b : take (q + n - (q + 8)) (drop (q + 8) t) ≡ drop 8 (f .span) = rw (k, ← drop-drop 8 q t) (f .bytes) in
+        e ∙ ap countNumber b
 
-  -- Its number was not passed before.
-  pub passed-next : (f : List ℕ) → getD f number 0 ≡ 0
-      → flagged f q (laterSpans (cells (drop q t) (drop q m))) ≡ flagged (set f number 1) next (laterSpans (cells (drop next t) (drop next m)))
-  unfolding flagged
-  passed-next f h =
-      let k : q + (next - q) ≡ next = omega (arith, s .further) in
-      let d : laterSpans (cells (drop next t) (drop next m)) ≡ s .front-is .later =
-      rw (drop-drop (next - q) q t, drop-drop (next - q) q m, k) at (s .front-is .later-cut) in
-      let j : q + length (s .front-is .span) ≡ next = omega (arith, s .further, s .front-is .size) in
-      rw (s .front-is .cut, ← s .number-is, eq-eqb (getD f number 0) 0 h, d, j)
+    -- It was passed before.
+    pub ahead-repeated : (s : List ℕ) → (getD s number 0 ≡ 0 → ⊥) → flagged s q (laterSpans (cells (drop q t) (drop q m))) ≡ refused (sectorRepeated q)
+    unfolding flagged
+    ahead-repeated s h = rw (f .cut, ← number-is, ne-eqb (getD s number 0) 0 h)
 
--- Sector 0 at place p: its number is the first that is passed, and what is left behind it decides.
-module _ (t m : List ℕ) (p : ℕ) (u : NoStrayMark p t m) (o : startsWith plainOpening (drop p (cells t m)) ≡ true)
-    (window : (48 ≤ p) × (p ≤ lastFirstCount)) (x : SectorAt) (e : x ≡ sectorAt p (cells t m)) where
-  zero-next : x .next ≡ p + spanLength 6 (drop p (cells t m))
-  zero-next = ap (λ (z : SectorAt). z .next) e ∙ next-at true p (cells t m) (omega (arith, u .reach, u .within)) (opens-low p (window .1))
+    -- It was not passed before.
+    pub ahead-next : (s : List ℕ) → getD s number 0 ≡ 0
+        → flagged s q (laterSpans (cells (drop q t) (drop q m))) ≡ flagged (set s number 1) (q + n) (laterSpans (cells (drop (q + n) t) (drop (q + n) m)))
+    unfolding flagged
+    ahead-next s h =
+        let d : laterSpans (cells (drop (q + n) t) (drop (q + n) m)) ≡ f .later = rw (drop-drop n q t, drop-drop n q m) at (f .later-cut) in
+        rw (f .cut, ← number-is, eq-eqb (getD s number 0) 0 h, d, f .size)
 
-  zero-front : First p (x .next - p) t m
-  zero-front = first-front p t m (x .next - p) u o (omega (arith, zero-next))
-
-  zero-number : x .number ≡ countNumber (drop 6 (beforeOpening (drop p (cells t m))))
-  zero-number =
-      let c : List ℕ = drop p (cells t m) in
-      let k : x .next - p ≡ spanLength 6 c = omega (arith, zero-next) in
-      let j : p + (x .next - p) - (p + 6) ≡ spanLength 6 c - 6 = omega arith in
-      ap (λ (z : SectorAt). z .number) e ∙ number-at true p (cells t m) (omega (arith, u .reach, u .within)) (opens-low p (window .1))
-      ∙ ap (λ (z : List ℕ). countNumber z) (span-rest-bytes 6 p (p + (x .next - p) - (p + 6)) t m j ∙ zero-front .bytes)
-
-  -- A sector that follows opens behind the last place of sector 0's count.
-  pub zero-behind : x .next < length t → lastFirstCount < x .next
-  zero-behind h = let k : 18 ≤ x .next - p = zero-front .reaches (omega (arith, zero-next)) in omega (arith, window .0)
-
-  -- What is left behind sector 0.
-  pub zero-rest : LaterSpans (x .next) (drop (x .next) t) (drop (x .next) m)
-  zero-rest =
-      let k : p + (x .next - p) ≡ x .next = omega (arith, zero-next) in
-      rw k at (zero-front .rest)
+-- Sector 0 at place p, of n cells: its number is the first that is passed, and what is left behind it decides.
+module _ (t m ns : List ℕ) (p n : ℕ) (u : NoStrayMark p t m ns) (f : First p n t m ns) (number : ℕ) (e : number ≡ getD (take (p + n - (p + 6)) (drop (p + 6) t)) 5 0) where
+  zero-number : number ≡ countNumber (drop 6 (beforeOpening (drop p (cells t m))))
+  zero-number = e ∙ ap countNumber (f .bytes)
 
   -- The numbers by the flags of which that of sector 0 is set.
   pub zero-flagged : numbersIn [] 0 p (spans (drop p (cells t m)))
-      ≡ flagged (set (replicate 256 0) (x .number) 1) (x .next) (laterSpans (cells (drop (x .next) t) (drop (x .next) m)))
+      ≡ flagged (set (replicate 256 0) number 1) (p + n) (laterSpans (cells (drop (p + n) t) (drop (p + n) m)))
   unfolding numbersIn spans among cleanSpans cleanSpan
   zero-flagged =
       let d : List ℕ = drop p (cells t m) in
       let c = marks-clean (p + 18) p (cells t m) refl (u .judged) in
       let v = and-both (unmarked (beforeOpening d)) (cleanSpans 1 (laterSpans d)) (c .1) in
-      let n : ℕ = countNumber (drop 6 (beforeOpening d)) in
-      let b : n < 256 = unmarked-at (drop 6 (beforeOpening d)) 5 (unmarked-drop 6 (beforeOpening d) (v .0)) in
-      let k : p + (x .next - p) ≡ x .next = omega (arith, zero-next) in
-      let z : laterSpans (cells (drop (x .next) t) (drop (x .next) m)) ≡ laterSpans d = rw k at (zero-front .later-cut) in
-      let j : p + length (beforeOpening d) ≡ x .next = omega (arith, zero-next, zero-front .size) in
-      rw (z, ← j, zero-number) (sym (flagged-numbers (set (replicate 256 0) n 1) (n ∷ []) 0 (p + length (beforeOpening d)) (laterSpans d) (v .1) (agree-next (replicate 256 0) [] n b agree-none)))
+      let x : ℕ = countNumber (drop 6 (beforeOpening d)) in
+      let b : x < 256 = unmarked-at (drop 6 (beforeOpening d)) 5 (unmarked-drop 6 (beforeOpening d) (v .0)) in
+      rw (f .later-cut, ← f .size, zero-number)
+      (sym (flagged-numbers (set (replicate 256 0) x 1) (x ∷ []) 0 (p + length (beforeOpening d)) (laterSpans d) (v .1) (agree-next (replicate 256 0) [] x b agree-none)))

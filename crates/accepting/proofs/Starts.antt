@@ -4,7 +4,7 @@ use Prim.Native.Nat.{ℕ, zero, suc, _+_, _-_, _*_, _≤_, _<_}
 use native.Mathlib.Omega.{arith}
 use mathlib.Core.Bool.{Bool, true, false, _&&_}
 use mathlib.Core.List.{List, [], _∷_, _++_}
-use lib.ListN.{length, drop}
+use lib.ListN.{length, getD, drop}
 use lib.Dec.{leb, ltb}
 use borrow.Author.Tests.{lt-leb}
 use Rattle.format.specs.Answer.{markStray}
@@ -85,3 +85,15 @@ starts-spans q (x ∷ c) =
     rw (o, next)
     (ap₂ (λ (y z : ℕ). y ∷ startsOf z (laterSpans c)) {x = q} {y = q + 0} {u = suc q + length (beforeOpening c)} {v = q + 0 + suc (length (beforeOpening c))} (omega arith) (omega arith)))
     (λ o. rw (o, next) (ap (λ (z : ℕ). startsOf z (laterSpans c)) (omega arith)))
+
+-- Behind the end of a list stands what is given for it.
+pub getD-beyond : (ns : List ℕ) (k l : ℕ) → length ns ≤ k → getD ns k l ≡ l
+getD-beyond [] k l h = refl
+getD-beyond (n ∷ ns) zero l h = absurd (omega arith)
+getD-beyond (n ∷ ns) (suc k) l h = getD-beyond ns k l (omega arith)
+
+-- Within it that plays no part.
+pub getD-within : (ns : List ℕ) (k l : ℕ) → k < length ns → getD ns k 0 ≡ getD ns k l
+getD-within [] k l h = absurd (omega arith)
+getD-within (n ∷ ns) zero l h = refl
+getD-within (n ∷ ns) (suc k) l h = getD-within ns k l (omega arith)

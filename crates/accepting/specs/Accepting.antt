@@ -14,6 +14,7 @@ use Rattle.format.specs.Span.{beforeOpening, laterSpans, cleanSpans}
 use Rattle.format.specs.Sector.{openingLength, isFirst}
 use Rattle.format.specs.Accept.{judgeMarks, among}
 use Rattle.sector.specs.As.{asHome}
+use Rattle.accepting.specs.Starts.{startsIn, startsOf}
 use Rattle.accepting.specs.declared.home.HomeJudged.{HomeJudged}
 use Rattle.accepting.specs.declared.home.HomeJudged.the-variants.{Right, Refused}
 use Rattle.accepting.specs.declared.Judged.{Judged as JudgedCode}
@@ -34,19 +35,21 @@ abbrev pub homeInWindow : HomeJudged → Type 0
 homeInWindow (Right h) = (homeFirst ≤ h .place) × (h .place ≤ homeLast)
 homeInWindow (Refused a) = Unit {0}
 
--- What is left of a track from place p on: nothing, or it starts with a whole opening; and no mark of it is stray.
-pub record LaterSpans (p : ℕ) (t m : List ℕ) : Type 0 where
+-- What is left of a track from place p on: nothing, or it starts with a whole opening; no mark of it is stray, and ns lists the places of its spans.
+pub record LaterSpans (p : ℕ) (t m ns : List ℕ) : Type 0 where
   pub lengths : length m ≡ length t
   pub within : p + length t ≤ longestTrack
   pub opened : beforeOpening (cells t m) ≡ []
   pub clean : cleanSpans 1 (laterSpans (cells t m)) ≡ true
+  pub places : ns ≡ startsOf p (laterSpans (cells t m))
 
--- A lent track without stray marks, on which sector 0 stands at place p.
-pub record NoStrayMark (p : ℕ) (t m : List ℕ) : Type 0 where
+-- A lent track without stray marks, on which sector 0 stands at place p, and ns lists the places of the marked openings.
+pub record NoStrayMark (p : ℕ) (t m ns : List ℕ) : Type 0 where
   pub lengths : length m ≡ length t
   pub within : length t ≤ longestTrack
   pub reach : p ≤ length t
   pub judged : judgeMarks (p + firstCountLength) 0 0 (cells t m) ≡ good tt
+  pub places : ns ≡ startsIn 0 (cells t m)
 
 -- 13 by the spans gs alone, the first of which stands in position i and at place p; `seen` has the numbers passed.
 unfoldable pub numbersIn : List ℕ → ℕ → ℕ → List (List ℕ) → Judged (Unit {0})

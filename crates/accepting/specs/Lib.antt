@@ -1,3 +1,3 @@
 -- What judging a track gives, in the words of the track format.
-pub mod Accepting
 pub mod Starts
+pub mod Accepting

@@ -2,8 +2,9 @@
 ghost use mathlib.Core.Path.{_≡_};
 ghost use mathlib.Core.Bool.{true};
 ghost use mathlib.Core.List.{[]};
-ghost use Prim.Native.Nat.{_≤_};
-ghost use lib.ListN.{drop};
+ghost use Prim.Native.Nat.{_-_, _≤_};
+ghost use lib.ListN.{length, getD, drop};
+ghost use lib.Dec.{leb};
 ghost use Rattle.format.specs.Answer.{asAnswer};
 ghost use Rattle.format.specs.Judged.{answerOf, good, then};
 ghost use Rattle.format.specs.Layout.{homeFirst, homeLast};
@@ -14,7 +15,6 @@ ghost use Rattle.format.specs.Span.{laterSpans, spans};
 ghost use Rattle.format.specs.Sector.{judgeSector};
 ghost use Rattle.format.specs.Accept.{readSpans, judgeBehind, accept};
 ghost use Rattle.sector.specs.As.{asAddress, asHome, asSettled};
-ghost use Rattle.sectors.specs.SectorAt.{lastFirstCount};
 ghost use Rattle.accepting.specs.Accepting.{LaterSpans, NoStrayMark, numbersIn, judgedTrack, trackInWindow};
 use format::layout::FIRST_COUNT;
 use format::layout::HOME_TO_COUNT;
@@ -23,13 +23,16 @@ use format::layout::PLAIN;
 use sector::Address;
 use sector::Home;
 use sector::Named;
-use sectors::sector_at;
 
 pub mod home;
 pub mod marks;
 
 pub use home::HomeJudged;
 pub use home::judge_home;
+use marks::MOST_OPENINGS;
+use marks::MarksJudged;
+use marks::judge_marks;
+use search::Span;
 
 // The answer for a sector in position i and at place p by what follows its count's opening: 9, 7, 8, then 9, 10, 11.
 fn judge_sector(h: Home, i: usize, x: Named, p: usize, last: bool, r: &[u8]) -> format::Answer
@@ -43,49 +46,87 @@ fn judge_sector(h: Home, i: usize, x: Named, p: usize, last: bool, r: &[u8]) -> 
     sector::judge_blocks(i == 0, p as u32, last, r)
 }
 
+// A place of the list as a number.
+fn place_from(start: u16) -> usize
+    ensures { λ r. ⌜ r ≡ start ⌝ }
+{
+    start as usize
+}
+
+// The span that starts at place p and ends where the one at k of the list starts, or at index, place l, where the list has no more.
+fn listed_span(starts: &[u16], k: usize, p: usize, l: usize) -> Span
+    requires { ⌜ p ≤ getD (now starts) k l ⌝ }
+    ensures { λ r. ⌜ (r .length ≡ getD (now (starts .entry)) k l - p) × (r .last ≡ leb (length (now (starts .entry))) k) ⌝ }
+{
+    if starts.len() <= k {
+        return Span {
+            length: l - p,
+            last: true,
+        };
+    }
+    Span {
+        length: place_from(starts[k]) - p,
+        last: false,
+    }
+}
+
 // The answer for the sectors from the odd one at the front of what is left on: its B8 is 1.
-fn judge_odd(track: &[u8], marks: &[u8], p: usize, h: Home, named: Address) -> format::Answer
-    requires { ⌜ LaterSpans p (now track) (now marks) ⌝ }
+fn judge_odd(
+    track: &[u8],
+    marks: &[u8],
+    starts: &[u16],
+    p: usize,
+    h: Home,
+    named: Address,
+) -> format::Answer
+    requires { ⌜ LaterSpans p (now track) (now marks) (now starts) ⌝ }
     ensures { λ a. ⌜ asAnswer a ≡ answerOf (readSpans (asHome h) 1 (settled (asAddress named)) p (laterSpans (cells (now (track .entry)) (now (marks .entry))))) ⌝ }
 {
     if track.len() == 0 {
         return format::done();
     }
-    let span = search::span_at(track, marks, 0, MARKED);
+    let span = listed_span(starts, 1, p, p + track.len());
     let n = span.length;
     let a = judge_sector(h, 1, Named::Settled(named), p, span.last, &track[MARKED..n]);
     if a.number != 0 {
         return a;
     }
-    judge_even(&track[n..], &marks[n..], p + n, h, named)
+    judge_even(&track[n..], &marks[n..], &starts[1..], p + n, h, named)
 }
 
 // The answer for the sectors from the even one at the front of what is left on: its B8 is 0.
-fn judge_even(track: &[u8], marks: &[u8], p: usize, h: Home, named: Address) -> format::Answer
-    requires { ⌜ LaterSpans p (now track) (now marks) ⌝ }
+fn judge_even(
+    track: &[u8],
+    marks: &[u8],
+    starts: &[u16],
+    p: usize,
+    h: Home,
+    named: Address,
+) -> format::Answer
+    requires { ⌜ LaterSpans p (now track) (now marks) (now starts) ⌝ }
     ensures { λ a. ⌜ asAnswer a ≡ answerOf (readSpans (asHome h) 2 (settled (asAddress named)) p (laterSpans (cells (now (track .entry)) (now (marks .entry))))) ⌝ }
 {
     if track.len() == 0 {
         return format::done();
     }
-    let span = search::span_at(track, marks, 0, MARKED);
+    let span = listed_span(starts, 1, p, p + track.len());
     let n = span.length;
     let a = judge_sector(h, 2, Named::Settled(named), p, span.last, &track[MARKED..n]);
     if a.number != 0 {
         return a;
     }
-    judge_odd(&track[n..], &marks[n..], p + n, h, named)
+    judge_odd(&track[n..], &marks[n..], &starts[1..], p + n, h, named)
 }
 
 // The answer for the sectors from sector 0 at place p on: 6 where its count does not open, then sector by sector.
-fn judge_sectors(track: &[u8], marks: &[u8], p: usize, h: Home) -> format::Answer
-    requires { ⌜ NoStrayMark p (now track) (now marks) ⌝ }
+fn judge_sectors(track: &[u8], marks: &[u8], starts: &[u16], p: usize, h: Home) -> format::Answer
+    requires { ⌜ NoStrayMark p (now track) (now marks) (now starts) ⌝ }
     ensures { λ a. ⌜ asAnswer a ≡ answerOf (readSpans (asHome h) 0 unsettled p (spans (drop p (cells (now (track .entry)) (now (marks .entry)))))) ⌝ }
 {
     if !search::opens_plain(track, marks, p) {
         return format::first_count_missing(p);
     }
-    let span = search::span_at(track, marks, p, PLAIN);
+    let span = listed_span(starts, 0, p, track.len());
     let from = p + PLAIN;
     let to = p + span.length;
     let a = judge_sector(h, 0, Named::Unsettled, p, span.last, &track[from..to]);
@@ -93,29 +134,34 @@ fn judge_sectors(track: &[u8], marks: &[u8], p: usize, h: Home) -> format::Answe
         return a;
     }
     let named = sector::address_in(&track[from..to]);
-    judge_odd(&track[to..], &marks[to..], to, h, named)
+    judge_odd(&track[to..], &marks[to..], starts, to, h, named)
 }
 
 // The answer for the numbers of the sectors from sector 0 at place p on: 13 for the leftmost that repeats an earlier one.
-fn judge_numbers(track: &[u8], marks: &[u8], p: usize) -> format::Answer
-    requires { ⌜ NoStrayMark p (now track) (now marks) ⌝ }
+fn judge_numbers(track: &[u8], marks: &[u8], starts: &[u16], p: usize) -> format::Answer
+    requires { ⌜ NoStrayMark p (now track) (now marks) (now starts) ⌝ }
     requires { ⌜ startsWith plainOpening (drop p (cells (now track) (now marks))) ≡ true ⌝ }
-    requires { ⌜ (48 ≤ p) × (p ≤ lastFirstCount) ⌝ }
     ensures { λ a. ⌜ asAnswer a ≡ answerOf (numbersIn [] 0 p (spans (drop p (cells (now (track .entry)) (now (marks .entry)))))) ⌝ }
 {
     let mut seen: [u8; 256] = [0; 256];
-    let zero = sector_at(track, marks, p);
-    let number = zero.number as usize;
+    let zero = listed_span(starts, 0, p, track.len());
+    let from = p + PLAIN;
+    let to = p + zero.length;
+    let number = sector::byte_at(&track[from..to], 5) as usize;
     seen[number] = 1;
-    let mut q = zero.next;
+    let mut q = to;
+    let mut i: usize = 0;
     while q < track.len() {
-        let x = sector_at(track, marks, q);
-        let s = x.number as usize;
+        let span = listed_span(starts, i + 1, q, track.len());
+        let from = q + MARKED;
+        let to = q + span.length;
+        let s = sector::byte_at(&track[from..to], 5) as usize;
         if seen[s] != 0 {
             return format::sector_repeated(q);
         }
         seen[s] = 1;
-        q = x.next;
+        q = to;
+        i += 1;
     }
     format::done()
 }
@@ -127,16 +173,17 @@ fn judge_behind(track: &[u8], marks: &[u8], h: Home) -> format::Answer
     ensures { λ a. ⌜ asAnswer a ≡ answerOf (judgeBehind (asHome h) (cells (now (track .entry)) (now (marks .entry)))) ⌝ }
 {
     let p = h.place + HOME_TO_COUNT;
-    let strayed = search::judge_marks(track, marks, p + FIRST_COUNT);
-    match strayed {
-        search::Strayed::Nowhere => {
-            let a = judge_sectors(track, marks, p, h);
+    let mut starts: [u16; MOST_OPENINGS] = [0; MOST_OPENINGS];
+    let judged = judge_marks(track, marks, p + FIRST_COUNT, &mut starts);
+    match judged {
+        MarksJudged::Openings(k) => {
+            let a = judge_sectors(track, marks, &starts[..k], p, h);
             if a.number != 0 {
                 return a;
             }
-            judge_numbers(track, marks, p)
+            judge_numbers(track, marks, &starts[..k], p)
         }
-        search::Strayed::At(q) => format::mark_stray(q),
+        MarksJudged::Stray(q) => format::mark_stray(q),
     }
 }
 

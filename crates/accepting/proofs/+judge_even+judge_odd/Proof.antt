@@ -1,9 +1,9 @@
 -- The cycle of calls of `judge_even` and `judge_odd` meets its contracts; what is left of the track gets shorter with each call.
-use mathlib.Core.Path.{sym, ap, _∙_}
-use Prim.Native.Nat.{ℕ, _+_, _<_}
+use mathlib.Core.Path.{refl, sym, ap, _∙_}
+use Prim.Native.Nat.{ℕ, _+_, _-_, _<_}
 use native.Mathlib.Omega.{arith}
 use borrow.Author.Needs.{needs}
-use lib.ListN.{length, length-drop}
+use lib.ListN.{length, getD, length-drop}
 use Rattle.format.specs.Count.{settled}
 use Rattle.sector.specs.As.{asAddress, asHome}
 use Rattle.base.proofs.Lists.{part-all}
@@ -17,260 +17,693 @@ use Rattle.accepting.proofs.+judge_even+judge_odd.Lts-judge_even as jud
 use Rattle.accepting.proofs.judge_odd.Reads as judge-odd
 use Rattle.accepting.proofs.judge_odd.Kinds as judge-odd-kinds
 use Rattle.accepting.proofs.+judge_even+judge_odd.Lts-judge_odd as judge-odd-lts
-use Rattle.format.proofs.done.Reads as done-reads
 use Rattle.accepting.proofs.judge_sector.Reads as judge-sector-reads
-use Rattle.search.proofs.span_at.Reads as span-at-reads
+use Rattle.accepting.proofs.listed_span.Reads as listed-span-reads
+use Rattle.format.proofs.done.Reads as done-reads
 use Rattle.accepting.proofs.+judge_even+judge_odd.{statement}
 use Rattle.accepting.proofs.+judge_even+judge_odd.Tie.{close}
 
 -- What falls with each call: the length of what is left.
-abbrev μ-judge-even : Measures 2 judge-even-kinds.ps ℕ
+abbrev μ-judge-even : Measures 3 judge-even-kinds.ps ℕ
 μ-judge-even κs a = length (a .0 .now)
 
-abbrev μ-judge-odd : Measures 2 judge-odd-kinds.ps ℕ
+abbrev μ-judge-odd : Measures 3 judge-odd-kinds.ps ℕ
 μ-judge-odd κs a = length (a .0 .now)
 
-abbrev judge-even-at : ℕ → In 2 judge-even-kinds.ps
+abbrev judge-even-at : ℕ → In 3 judge-even-kinds.ps
 judge-even-at t =
-    and 2 judge-even-kinds.ps (is 2 judge-even-kinds.ps μ-judge-even t) judge-even.Pre
+    and 3 judge-even-kinds.ps (is 3 judge-even-kinds.ps μ-judge-even t) judge-even.Pre
 
-abbrev judge-even-below : ℕ → In 2 judge-even-kinds.ps
+abbrev judge-even-below : ℕ → In 3 judge-even-kinds.ps
 judge-even-below t =
-    and 2 judge-even-kinds.ps (falls 2 judge-even-kinds.ps _<_ μ-judge-even t) judge-even.Pre
+    and 3 judge-even-kinds.ps (falls 3 judge-even-kinds.ps _<_ μ-judge-even t) judge-even.Pre
 
-abbrev judge-odd-at : ℕ → In 2 judge-odd-kinds.ps
-judge-odd-at t = and 2 judge-odd-kinds.ps (is 2 judge-odd-kinds.ps μ-judge-odd t) judge-odd.Pre
+abbrev judge-odd-at : ℕ → In 3 judge-odd-kinds.ps
+judge-odd-at t = and 3 judge-odd-kinds.ps (is 3 judge-odd-kinds.ps μ-judge-odd t) judge-odd.Pre
 
-abbrev judge-odd-below : ℕ → In 2 judge-odd-kinds.ps
+abbrev judge-odd-below : ℕ → In 3 judge-odd-kinds.ps
 judge-odd-below t =
-    and 2 judge-odd-kinds.ps (falls 2 judge-odd-kinds.ps _<_ μ-judge-odd t) judge-odd.Pre
+    and 3 judge-odd-kinds.ps (falls 3 judge-odd-kinds.ps _<_ μ-judge-odd t) judge-odd.Pre
 
--- What the calls of each ask and give.
-abbrev judge-even-calls : ℕ → judge-even-lts.Claims
-judge-even-calls t =
-    (done-reads.Asked, done-reads.Learnt, span-at-reads.Asked, span-at-reads.Learnt, judge-sector-reads.Asked, judge-sector-reads.Learnt, judge-odd-below t, judge-odd.Post)
-
-abbrev judge-odd-calls : ℕ → judge-odd-lts.Claims
-judge-odd-calls t =
-    (done-reads.Asked, done-reads.Learnt, span-at-reads.Asked, span-at-reads.Learnt, judge-sector-reads.Asked, judge-sector-reads.Learnt, judge-even-below t, judge-even.Post)
-
-judge-even-done-requires : (t : ℕ) → judge-even-lts.Need-done-requires (judge-even-calls t) (judge-even-at t) judge-even.Post
+judge-even-done-requires : (t : ℕ) → judge-even-lts.Need-done-requires (
+  done-reads.Asked,
+  done-reads.Learnt,
+  listed-span-reads.Asked,
+  listed-span-reads.Learnt,
+  judge-sector-reads.Asked,
+  judge-sector-reads.Learnt,
+  judge-odd-below t,
+  judge-odd.Post,
+) (judge-even-at t) judge-even.Post
 judge-even-done-requires t c κs = search needs
 
-judge-even-returns : (t : ℕ) → judge-even-lts.Need-returns (judge-even-calls t) (judge-even-at t) judge-even.Post
+judge-even-returns : (t : ℕ) → judge-even-lts.Need-returns (
+  done-reads.Asked,
+  done-reads.Learnt,
+  listed-span-reads.Asked,
+  listed-span-reads.Learnt,
+  judge-sector-reads.Asked,
+  judge-sector-reads.Learnt,
+  judge-odd-below t,
+  judge-odd.Post,
+) (judge-even-at t) judge-even.Post
 judge-even-returns t c =
-    let a = c .before .before .before .before .args in
+    let a = c .before .before .before .before .before .args in
     c .done .ensures ∙ sym (later-none (asHome (a .h)) 2 (settled (asAddress (a .named))) (a .p) (a .track .now) (a .marks .now) (c .before .if1 .taken))
 
-judge-even-span-at-requires : (t : ℕ) → judge-even-lts.Need-span-at-requires (judge-even-calls t) (judge-even-at t) judge-even.Post
-judge-even-span-at-requires t c κs = search needs
+judge-even-add-listed-span : (t : ℕ) → judge-even-lts.Need-add-listed-span (
+  done-reads.Asked,
+  done-reads.Learnt,
+  listed-span-reads.Asked,
+  listed-span-reads.Learnt,
+  judge-sector-reads.Asked,
+  judge-sector-reads.Learnt,
+  judge-odd-below t,
+  judge-odd.Post,
+) (judge-even-at t) judge-even.Post
+judge-even-add-listed-span t c = omega (arith, c .before .before .before .before .pre .1 .within)
 
-judge-even-sub-judge-sector : (t : ℕ) → judge-even-lts.Need-sub-judge-sector (judge-even-calls t) (judge-even-at t) judge-even.Post
+judge-even-listed-span-requires : (t : ℕ) → judge-even-lts.Need-listed-span-requires (
+  done-reads.Asked,
+  done-reads.Learnt,
+  listed-span-reads.Asked,
+  listed-span-reads.Learnt,
+  judge-sector-reads.Asked,
+  judge-sector-reads.Learnt,
+  judge-odd-below t,
+  judge-odd.Post,
+) (judge-even-at t) judge-even.Post
+judge-even-listed-span-requires t c κs =
+    let a = c .before .before .before .before .args in
+    let f = front (a .p) (a .track .now) (a .marks .now) (a .starts .now) (getD (a .starts .now) 1 (a .p + length (a .track .now)) - a .p) (c .before .before .before .before .pre .1) refl (omega (arith, c .if1 .left)) in
+    omega (arith, f .opening)
+
+judge-even-sub-judge-sector : (t : ℕ) → judge-even-lts.Need-sub-judge-sector (
+  done-reads.Asked,
+  done-reads.Learnt,
+  listed-span-reads.Asked,
+  listed-span-reads.Learnt,
+  judge-sector-reads.Asked,
+  judge-sector-reads.Learnt,
+  judge-odd-below t,
+  judge-odd.Post,
+) (judge-even-at t) judge-even.Post
 judge-even-sub-judge-sector t c =
-    let a = c .before .before .before .before .args in
-    let s = c .span-at in
-    let f = front (a .p) (a .track .now) (a .marks .now) (s .result .length) (c .before .before .before .before .pre .1) (s .ensures .0) (omega (arith, c .before .if1 .left)) in
-    omega arith
+    let a = c .before .before .before .before .before .args in
+    let s = c .listed-span in
+    let f = front (a .p) (a .track .now) (a .marks .now) (a .starts .now) (s .result .length) (c .before .before .before .before .before .pre .1) (s .ensures .0) (omega (arith, c .before .if1 .left)) in
+    omega (arith, f .opening, f .fits)
 
-judge-even-part-judge-sector-start : (t : ℕ) → judge-even-lts.Need-part-judge-sector-start (judge-even-calls t) (judge-even-at t) judge-even.Post
+judge-even-part-judge-sector-start : (t : ℕ) → judge-even-lts.Need-part-judge-sector-start (
+  done-reads.Asked,
+  done-reads.Learnt,
+  listed-span-reads.Asked,
+  listed-span-reads.Learnt,
+  judge-sector-reads.Asked,
+  judge-sector-reads.Learnt,
+  judge-odd-below t,
+  judge-odd.Post,
+) (judge-even-at t) judge-even.Post
 judge-even-part-judge-sector-start t c =
-    let a = c .before .before .before .before .args in
-    let s = c .span-at in
-    let f = front (a .p) (a .track .now) (a .marks .now) (s .result .length) (c .before .before .before .before .pre .1) (s .ensures .0) (omega (arith, c .before .if1 .left)) in
-    omega arith
+    let a = c .before .before .before .before .before .args in
+    let s = c .listed-span in
+    let f = front (a .p) (a .track .now) (a .marks .now) (a .starts .now) (s .result .length) (c .before .before .before .before .before .pre .1) (s .ensures .0) (omega (arith, c .before .if1 .left)) in
+    omega (arith, f .opening, f .fits)
 
-judge-even-part-judge-sector-end : (t : ℕ) → judge-even-lts.Need-part-judge-sector-end (judge-even-calls t) (judge-even-at t) judge-even.Post
+judge-even-part-judge-sector-end : (t : ℕ) → judge-even-lts.Need-part-judge-sector-end (
+  done-reads.Asked,
+  done-reads.Learnt,
+  listed-span-reads.Asked,
+  listed-span-reads.Learnt,
+  judge-sector-reads.Asked,
+  judge-sector-reads.Learnt,
+  judge-odd-below t,
+  judge-odd.Post,
+) (judge-even-at t) judge-even.Post
 judge-even-part-judge-sector-end t c =
-    let a = c .before .before .before .before .args in
-    let s = c .span-at in
-    let f = front (a .p) (a .track .now) (a .marks .now) (s .result .length) (c .before .before .before .before .pre .1) (s .ensures .0) (omega (arith, c .before .if1 .left)) in
-    omega arith
+    let a = c .before .before .before .before .before .args in
+    let s = c .listed-span in
+    let f = front (a .p) (a .track .now) (a .marks .now) (a .starts .now) (s .result .length) (c .before .before .before .before .before .pre .1) (s .ensures .0) (omega (arith, c .before .if1 .left)) in
+    omega (arith, f .opening, f .fits)
 
-judge-even-judge-sector-requires : (t : ℕ) → judge-even-lts.Need-judge-sector-requires (judge-even-calls t) (judge-even-at t) judge-even.Post
-judge-even-judge-sector-requires t c κs = omega (arith, c .before .before .before .before .before .pre .1 .within)
+judge-even-judge-sector-requires : (t : ℕ) → judge-even-lts.Need-judge-sector-requires (
+  done-reads.Asked,
+  done-reads.Learnt,
+  listed-span-reads.Asked,
+  listed-span-reads.Learnt,
+  judge-sector-reads.Asked,
+  judge-sector-reads.Learnt,
+  judge-odd-below t,
+  judge-odd.Post,
+) (judge-even-at t) judge-even.Post
+judge-even-judge-sector-requires t c κs = omega (arith, c .before .before .before .before .before .before .pre .1 .within)
 
-judge-even-returns-2 : (t : ℕ) → judge-even-lts.Need-returns-2 (judge-even-calls t) (judge-even-at t) judge-even.Post
+judge-even-returns-2 : (t : ℕ) → judge-even-lts.Need-returns-2 (
+  done-reads.Asked,
+  done-reads.Learnt,
+  listed-span-reads.Asked,
+  listed-span-reads.Learnt,
+  judge-sector-reads.Asked,
+  judge-sector-reads.Learnt,
+  judge-odd-below t,
+  judge-odd.Post,
+) (judge-even-at t) judge-even.Post
 judge-even-returns-2 t c =
-    let a = c .before .before .before .before .before .before .before .before .args in
-    let s = c .before .before .before .before .span-at in
-    let f = front (a .p) (a .track .now) (a .marks .now) (s .result .length) (c .before .before .before .before .before .before .before .before .pre .1) (s .ensures .0) (omega (arith, c .before .before .before .before .before .if1 .left)) in
-    front-refused (asHome (a .h)) 1 (asAddress (a .named)) (a .p) (s .result .length) (a .track .now) (a .marks .now) f (s .result .last) (s .ensures .1 .0) _ (c .before .before .judge-sector .ensures) (c .if2 .taken)
+    let a = c .before .before .before .before .before .before .before .before .before .args in
+    let s = c .before .before .before .before .listed-span in
+    let f = front (a .p) (a .track .now) (a .marks .now) (a .starts .now) (s .result .length) (c .before .before .before .before .before .before .before .before .before .pre .1) (s .ensures .0) (omega (arith, c .before .before .before .before .before .if1 .left)) in
+    front-refused (asHome (a .h)) 1 (asAddress (a .named)) (a .p) (s .result .length) (a .track .now) (a .marks .now) (a .starts .now) f (s .result .last) (s .ensures .1) _ (c .before .before .judge-sector .ensures) (c .if2 .taken)
 
-judge-even-sub-judge-odd : (t : ℕ) → judge-even-lts.Need-sub-judge-odd (judge-even-calls t) (judge-even-at t) judge-even.Post
+judge-even-sub-judge-odd : (t : ℕ) → judge-even-lts.Need-sub-judge-odd (
+  done-reads.Asked,
+  done-reads.Learnt,
+  listed-span-reads.Asked,
+  listed-span-reads.Learnt,
+  judge-sector-reads.Asked,
+  judge-sector-reads.Learnt,
+  judge-odd-below t,
+  judge-odd.Post,
+) (judge-even-at t) judge-even.Post
 judge-even-sub-judge-odd t c =
-    let a = c .before .before .before .before .before .before .before .before .args in
-    let s = c .before .before .before .before .span-at in
-    let f = front (a .p) (a .track .now) (a .marks .now) (s .result .length) (c .before .before .before .before .before .before .before .before .pre .1) (s .ensures .0) (omega (arith, c .before .before .before .before .before .if1 .left)) in
-    omega arith
+    let a = c .before .before .before .before .before .before .before .before .before .args in
+    let s = c .before .before .before .before .listed-span in
+    let f = front (a .p) (a .track .now) (a .marks .now) (a .starts .now) (s .result .length) (c .before .before .before .before .before .before .before .before .before .pre .1) (s .ensures .0) (omega (arith, c .before .before .before .before .before .if1 .left)) in
+    omega (arith, f .fits)
 
-judge-even-part-judge-odd-start : (t : ℕ) → judge-even-lts.Need-part-judge-odd-start (judge-even-calls t) (judge-even-at t) judge-even.Post
+judge-even-part-judge-odd-start : (t : ℕ) → judge-even-lts.Need-part-judge-odd-start (
+  done-reads.Asked,
+  done-reads.Learnt,
+  listed-span-reads.Asked,
+  listed-span-reads.Learnt,
+  judge-sector-reads.Asked,
+  judge-sector-reads.Learnt,
+  judge-odd-below t,
+  judge-odd.Post,
+) (judge-even-at t) judge-even.Post
 judge-even-part-judge-odd-start t c =
-    let a = c .before .before .before .before .before .before .before .before .args in
-    let s = c .before .before .before .before .span-at in
-    let f = front (a .p) (a .track .now) (a .marks .now) (s .result .length) (c .before .before .before .before .before .before .before .before .pre .1) (s .ensures .0) (omega (arith, c .before .before .before .before .before .if1 .left)) in
-    omega arith
+    let a = c .before .before .before .before .before .before .before .before .before .args in
+    let s = c .before .before .before .before .listed-span in
+    let f = front (a .p) (a .track .now) (a .marks .now) (a .starts .now) (s .result .length) (c .before .before .before .before .before .before .before .before .before .pre .1) (s .ensures .0) (omega (arith, c .before .before .before .before .before .if1 .left)) in
+    omega (arith, f .fits)
 
-judge-even-part-judge-odd-end : (t : ℕ) → judge-even-lts.Need-part-judge-odd-end (judge-even-calls t) (judge-even-at t) judge-even.Post
+judge-even-part-judge-odd-end : (t : ℕ) → judge-even-lts.Need-part-judge-odd-end (
+  done-reads.Asked,
+  done-reads.Learnt,
+  listed-span-reads.Asked,
+  listed-span-reads.Learnt,
+  judge-sector-reads.Asked,
+  judge-sector-reads.Learnt,
+  judge-odd-below t,
+  judge-odd.Post,
+) (judge-even-at t) judge-even.Post
 judge-even-part-judge-odd-end t c =
-    let a = c .before .before .before .before .before .before .before .before .args in
-    let s = c .before .before .before .before .span-at in
-    let f = front (a .p) (a .track .now) (a .marks .now) (s .result .length) (c .before .before .before .before .before .before .before .before .pre .1) (s .ensures .0) (omega (arith, c .before .before .before .before .before .if1 .left)) in
-    omega arith
+    let a = c .before .before .before .before .before .before .before .before .before .args in
+    let s = c .before .before .before .before .listed-span in
+    let f = front (a .p) (a .track .now) (a .marks .now) (a .starts .now) (s .result .length) (c .before .before .before .before .before .before .before .before .before .pre .1) (s .ensures .0) (omega (arith, c .before .before .before .before .before .if1 .left)) in
+    omega (arith, f .fits)
 
-judge-even-sub-judge-odd-2 : (t : ℕ) → judge-even-lts.Need-sub-judge-odd-2 (judge-even-calls t) (judge-even-at t) judge-even.Post
+judge-even-sub-judge-odd-2 : (t : ℕ) → judge-even-lts.Need-sub-judge-odd-2 (
+  done-reads.Asked,
+  done-reads.Learnt,
+  listed-span-reads.Asked,
+  listed-span-reads.Learnt,
+  judge-sector-reads.Asked,
+  judge-sector-reads.Learnt,
+  judge-odd-below t,
+  judge-odd.Post,
+) (judge-even-at t) judge-even.Post
 judge-even-sub-judge-odd-2 t c =
-    let a = c .before .before .before .before .before .before .before .before .before .args in
-    let s = c .before .before .before .before .before .span-at in
-    let f = front (a .p) (a .track .now) (a .marks .now) (s .result .length) (c .before .before .before .before .before .before .before .before .before .pre .1) (s .ensures .0) (omega (arith, c .before .before .before .before .before .before .if1 .left)) in
-    omega (arith, c .before .before .before .before .before .before .before .before .before .pre .1 .lengths)
+    let a = c .before .before .before .before .before .before .before .before .before .before .args in
+    let s = c .before .before .before .before .before .listed-span in
+    let f = front (a .p) (a .track .now) (a .marks .now) (a .starts .now) (s .result .length) (c .before .before .before .before .before .before .before .before .before .before .pre .1) (s .ensures .0) (omega (arith, c .before .before .before .before .before .before .if1 .left)) in
+    omega (arith, f .fits, c .before .before .before .before .before .before .before .before .before .before .pre .1 .lengths)
 
-judge-even-part-judge-odd-start-2 : (t : ℕ) → judge-even-lts.Need-part-judge-odd-start-2 (judge-even-calls t) (judge-even-at t) judge-even.Post
+judge-even-part-judge-odd-start-2 : (t : ℕ) → judge-even-lts.Need-part-judge-odd-start-2 (
+  done-reads.Asked,
+  done-reads.Learnt,
+  listed-span-reads.Asked,
+  listed-span-reads.Learnt,
+  judge-sector-reads.Asked,
+  judge-sector-reads.Learnt,
+  judge-odd-below t,
+  judge-odd.Post,
+) (judge-even-at t) judge-even.Post
 judge-even-part-judge-odd-start-2 t c =
-    let a = c .before .before .before .before .before .before .before .before .before .args in
-    let s = c .before .before .before .before .before .span-at in
-    let f = front (a .p) (a .track .now) (a .marks .now) (s .result .length) (c .before .before .before .before .before .before .before .before .before .pre .1) (s .ensures .0) (omega (arith, c .before .before .before .before .before .before .if1 .left)) in
-    omega (arith, c .before .before .before .before .before .before .before .before .before .pre .1 .lengths)
+    let a = c .before .before .before .before .before .before .before .before .before .before .args in
+    let s = c .before .before .before .before .before .listed-span in
+    let f = front (a .p) (a .track .now) (a .marks .now) (a .starts .now) (s .result .length) (c .before .before .before .before .before .before .before .before .before .before .pre .1) (s .ensures .0) (omega (arith, c .before .before .before .before .before .before .if1 .left)) in
+    omega (arith, f .fits, c .before .before .before .before .before .before .before .before .before .before .pre .1 .lengths)
 
-judge-even-part-judge-odd-end-2 : (t : ℕ) → judge-even-lts.Need-part-judge-odd-end-2 (judge-even-calls t) (judge-even-at t) judge-even.Post
+judge-even-part-judge-odd-end-2 : (t : ℕ) → judge-even-lts.Need-part-judge-odd-end-2 (
+  done-reads.Asked,
+  done-reads.Learnt,
+  listed-span-reads.Asked,
+  listed-span-reads.Learnt,
+  judge-sector-reads.Asked,
+  judge-sector-reads.Learnt,
+  judge-odd-below t,
+  judge-odd.Post,
+) (judge-even-at t) judge-even.Post
 judge-even-part-judge-odd-end-2 t c =
-    let a = c .before .before .before .before .before .before .before .before .before .args in
-    let s = c .before .before .before .before .before .span-at in
-    let f = front (a .p) (a .track .now) (a .marks .now) (s .result .length) (c .before .before .before .before .before .before .before .before .before .pre .1) (s .ensures .0) (omega (arith, c .before .before .before .before .before .before .if1 .left)) in
-    omega (arith, c .before .before .before .before .before .before .before .before .before .pre .1 .lengths)
-
-judge-even-add-judge-odd : (t : ℕ) → judge-even-lts.Need-add-judge-odd (judge-even-calls t) (judge-even-at t) judge-even.Post
-judge-even-add-judge-odd t c =
     let a = c .before .before .before .before .before .before .before .before .before .before .args in
-    let s = c .before .before .before .before .before .before .span-at in
-    let f = front (a .p) (a .track .now) (a .marks .now) (s .result .length) (c .before .before .before .before .before .before .before .before .before .before .pre .1) (s .ensures .0) (omega (arith, c .before .before .before .before .before .before .before .if1 .left)) in
-    omega (arith, c .before .before .before .before .before .before .before .before .before .before .pre .1 .within)
+    let s = c .before .before .before .before .before .listed-span in
+    let f = front (a .p) (a .track .now) (a .marks .now) (a .starts .now) (s .result .length) (c .before .before .before .before .before .before .before .before .before .before .pre .1) (s .ensures .0) (omega (arith, c .before .before .before .before .before .before .if1 .left)) in
+    omega (arith, f .fits, c .before .before .before .before .before .before .before .before .before .before .pre .1 .lengths)
 
-judge-even-judge-odd-requires : (t : ℕ) → judge-even-lts.Need-judge-odd-requires (judge-even-calls t) (judge-even-at t) judge-even.Post
-judge-even-judge-odd-requires t c κs =
-    let a = c .before .before .before .before .before .before .before .before .before .before .args in
-    let s = c .before .before .before .before .before .before .span-at in
-    let f = front (a .p) (a .track .now) (a .marks .now) (s .result .length) (c .before .before .before .before .before .before .before .before .before .before .pre .1) (s .ensures .0) (omega (arith, c .before .before .before .before .before .before .before .if1 .left)) in
-    (omega (arith, length-drop (s .result .length) (a .track .now), ap length (part-all (s .result .length) (a .track .now))), rest-next (a .p) (s .result .length) (a .track .now) (a .marks .now) f)
-
-judge-even-returns-3 : (t : ℕ) → judge-even-lts.Need-returns-3 (judge-even-calls t) (judge-even-at t) judge-even.Post
-judge-even-returns-3 t c =
+judge-even-sub-judge-odd-3 : (t : ℕ) → judge-even-lts.Need-sub-judge-odd-3 (
+  done-reads.Asked,
+  done-reads.Learnt,
+  listed-span-reads.Asked,
+  listed-span-reads.Learnt,
+  judge-sector-reads.Asked,
+  judge-sector-reads.Learnt,
+  judge-odd-below t,
+  judge-odd.Post,
+) (judge-even-at t) judge-even.Post
+judge-even-sub-judge-odd-3 t c =
     let a = c .before .before .before .before .before .before .before .before .before .before .before .args in
-    let s = c .before .before .before .before .before .before .before .span-at in
-    let f = front (a .p) (a .track .now) (a .marks .now) (s .result .length) (c .before .before .before .before .before .before .before .before .before .before .before .pre .1) (s .ensures .0) (omega (arith, c .before .before .before .before .before .before .before .before .if1 .left)) in
-    c .judge-odd .ensures ∙ answers-two (asHome (a .h)) 0 (settled (asAddress (a .named))) (a .p + s .result .length) _ ∙ front-good (asHome (a .h)) 1 (asAddress (a .named)) (a .p) (s .result .length) (a .track .now) (a .marks .now) f (s .result .last) (s .ensures .1 .0) _ (c .before .before .before .before .before .judge-sector .ensures) (c .before .before .before .if2 .left)
+    let s = c .before .before .before .before .before .before .listed-span in
+    let f = front (a .p) (a .track .now) (a .marks .now) (a .starts .now) (s .result .length) (c .before .before .before .before .before .before .before .before .before .before .before .pre .1) (s .ensures .0) (omega (arith, c .before .before .before .before .before .before .before .if1 .left)) in
+    omega (arith, f .listed)
 
-judge-odd-done-requires : (t : ℕ) → judge-odd-lts.Need-done-requires (judge-odd-calls t) (judge-odd-at t) judge-odd.Post
+judge-even-part-judge-odd-start-3 : (t : ℕ) → judge-even-lts.Need-part-judge-odd-start-3 (
+  done-reads.Asked,
+  done-reads.Learnt,
+  listed-span-reads.Asked,
+  listed-span-reads.Learnt,
+  judge-sector-reads.Asked,
+  judge-sector-reads.Learnt,
+  judge-odd-below t,
+  judge-odd.Post,
+) (judge-even-at t) judge-even.Post
+judge-even-part-judge-odd-start-3 t c =
+    let a = c .before .before .before .before .before .before .before .before .before .before .before .args in
+    let s = c .before .before .before .before .before .before .listed-span in
+    let f = front (a .p) (a .track .now) (a .marks .now) (a .starts .now) (s .result .length) (c .before .before .before .before .before .before .before .before .before .before .before .pre .1) (s .ensures .0) (omega (arith, c .before .before .before .before .before .before .before .if1 .left)) in
+    omega (arith, f .listed)
+
+judge-even-part-judge-odd-end-3 : (t : ℕ) → judge-even-lts.Need-part-judge-odd-end-3 (
+  done-reads.Asked,
+  done-reads.Learnt,
+  listed-span-reads.Asked,
+  listed-span-reads.Learnt,
+  judge-sector-reads.Asked,
+  judge-sector-reads.Learnt,
+  judge-odd-below t,
+  judge-odd.Post,
+) (judge-even-at t) judge-even.Post
+judge-even-part-judge-odd-end-3 t c =
+    let a = c .before .before .before .before .before .before .before .before .before .before .before .args in
+    let s = c .before .before .before .before .before .before .listed-span in
+    let f = front (a .p) (a .track .now) (a .marks .now) (a .starts .now) (s .result .length) (c .before .before .before .before .before .before .before .before .before .before .before .pre .1) (s .ensures .0) (omega (arith, c .before .before .before .before .before .before .before .if1 .left)) in
+    omega (arith, f .listed)
+
+judge-even-add-judge-odd : (t : ℕ) → judge-even-lts.Need-add-judge-odd (
+  done-reads.Asked,
+  done-reads.Learnt,
+  listed-span-reads.Asked,
+  listed-span-reads.Learnt,
+  judge-sector-reads.Asked,
+  judge-sector-reads.Learnt,
+  judge-odd-below t,
+  judge-odd.Post,
+) (judge-even-at t) judge-even.Post
+judge-even-add-judge-odd t c =
+    let a = c .before .before .before .before .before .before .before .before .before .before .before .before .args in
+    let s = c .before .before .before .before .before .before .before .listed-span in
+    let f = front (a .p) (a .track .now) (a .marks .now) (a .starts .now) (s .result .length) (c .before .before .before .before .before .before .before .before .before .before .before .before .pre .1) (s .ensures .0) (omega (arith, c .before .before .before .before .before .before .before .before .if1 .left)) in
+    omega (arith, f .fits, c .before .before .before .before .before .before .before .before .before .before .before .before .pre .1 .within)
+
+judge-even-judge-odd-requires : (t : ℕ) → judge-even-lts.Need-judge-odd-requires (
+  done-reads.Asked,
+  done-reads.Learnt,
+  listed-span-reads.Asked,
+  listed-span-reads.Learnt,
+  judge-sector-reads.Asked,
+  judge-sector-reads.Learnt,
+  judge-odd-below t,
+  judge-odd.Post,
+) (judge-even-at t) judge-even.Post
+judge-even-judge-odd-requires t c κs =
+    let a = c .before .before .before .before .before .before .before .before .before .before .before .before .args in
+    let s = c .before .before .before .before .before .before .before .listed-span in
+    let f = front (a .p) (a .track .now) (a .marks .now) (a .starts .now) (s .result .length) (c .before .before .before .before .before .before .before .before .before .before .before .before .pre .1) (s .ensures .0) (omega (arith, c .before .before .before .before .before .before .before .before .if1 .left)) in
+    (omega (arith, f .opening, f .fits, length-drop (s .result .length) (a .track .now), ap length (part-all (s .result .length) (a .track .now))), rest-next (a .p) (s .result .length) (a .track .now) (a .marks .now) (a .starts .now) f)
+
+judge-even-returns-3 : (t : ℕ) → judge-even-lts.Need-returns-3 (
+  done-reads.Asked,
+  done-reads.Learnt,
+  listed-span-reads.Asked,
+  listed-span-reads.Learnt,
+  judge-sector-reads.Asked,
+  judge-sector-reads.Learnt,
+  judge-odd-below t,
+  judge-odd.Post,
+) (judge-even-at t) judge-even.Post
+judge-even-returns-3 t c =
+    let a = c .before .before .before .before .before .before .before .before .before .before .before .before .before .args in
+    let s = c .before .before .before .before .before .before .before .before .listed-span in
+    let f = front (a .p) (a .track .now) (a .marks .now) (a .starts .now) (s .result .length) (c .before .before .before .before .before .before .before .before .before .before .before .before .before .pre .1) (s .ensures .0) (omega (arith, c .before .before .before .before .before .before .before .before .before .if1 .left)) in
+    c .judge-odd .ensures ∙ answers-two (asHome (a .h)) 0 (settled (asAddress (a .named))) (a .p + s .result .length) _ ∙ front-good (asHome (a .h)) 1 (asAddress (a .named)) (a .p) (s .result .length) (a .track .now) (a .marks .now) (a .starts .now) f (s .result .last) (s .ensures .1) _ (c .before .before .before .before .before .before .judge-sector .ensures) (c .before .before .before .before .if2 .left)
+
+judge-odd-done-requires : (t : ℕ) → judge-odd-lts.Need-done-requires (
+  done-reads.Asked,
+  done-reads.Learnt,
+  listed-span-reads.Asked,
+  listed-span-reads.Learnt,
+  judge-sector-reads.Asked,
+  judge-sector-reads.Learnt,
+  judge-even-below t,
+  judge-even.Post,
+) (judge-odd-at t) judge-odd.Post
 judge-odd-done-requires t c κs = search needs
 
-judge-odd-returns : (t : ℕ) → judge-odd-lts.Need-returns (judge-odd-calls t) (judge-odd-at t) judge-odd.Post
+judge-odd-returns : (t : ℕ) → judge-odd-lts.Need-returns (
+  done-reads.Asked,
+  done-reads.Learnt,
+  listed-span-reads.Asked,
+  listed-span-reads.Learnt,
+  judge-sector-reads.Asked,
+  judge-sector-reads.Learnt,
+  judge-even-below t,
+  judge-even.Post,
+) (judge-odd-at t) judge-odd.Post
 judge-odd-returns t c =
-    let a = c .before .before .before .before .args in
+    let a = c .before .before .before .before .before .args in
     c .done .ensures ∙ sym (later-none (asHome (a .h)) 1 (settled (asAddress (a .named))) (a .p) (a .track .now) (a .marks .now) (c .before .if1 .taken))
 
-judge-odd-span-at-requires : (t : ℕ) → judge-odd-lts.Need-span-at-requires (judge-odd-calls t) (judge-odd-at t) judge-odd.Post
-judge-odd-span-at-requires t c κs = search needs
+judge-odd-add-listed-span : (t : ℕ) → judge-odd-lts.Need-add-listed-span (
+  done-reads.Asked,
+  done-reads.Learnt,
+  listed-span-reads.Asked,
+  listed-span-reads.Learnt,
+  judge-sector-reads.Asked,
+  judge-sector-reads.Learnt,
+  judge-even-below t,
+  judge-even.Post,
+) (judge-odd-at t) judge-odd.Post
+judge-odd-add-listed-span t c = omega (arith, c .before .before .before .before .pre .1 .within)
 
-judge-odd-sub-judge-sector : (t : ℕ) → judge-odd-lts.Need-sub-judge-sector (judge-odd-calls t) (judge-odd-at t) judge-odd.Post
+judge-odd-listed-span-requires : (t : ℕ) → judge-odd-lts.Need-listed-span-requires (
+  done-reads.Asked,
+  done-reads.Learnt,
+  listed-span-reads.Asked,
+  listed-span-reads.Learnt,
+  judge-sector-reads.Asked,
+  judge-sector-reads.Learnt,
+  judge-even-below t,
+  judge-even.Post,
+) (judge-odd-at t) judge-odd.Post
+judge-odd-listed-span-requires t c κs =
+    let a = c .before .before .before .before .args in
+    let f = front (a .p) (a .track .now) (a .marks .now) (a .starts .now) (getD (a .starts .now) 1 (a .p + length (a .track .now)) - a .p) (c .before .before .before .before .pre .1) refl (omega (arith, c .if1 .left)) in
+    omega (arith, f .opening)
+
+judge-odd-sub-judge-sector : (t : ℕ) → judge-odd-lts.Need-sub-judge-sector (
+  done-reads.Asked,
+  done-reads.Learnt,
+  listed-span-reads.Asked,
+  listed-span-reads.Learnt,
+  judge-sector-reads.Asked,
+  judge-sector-reads.Learnt,
+  judge-even-below t,
+  judge-even.Post,
+) (judge-odd-at t) judge-odd.Post
 judge-odd-sub-judge-sector t c =
-    let a = c .before .before .before .before .args in
-    let s = c .span-at in
-    let f = front (a .p) (a .track .now) (a .marks .now) (s .result .length) (c .before .before .before .before .pre .1) (s .ensures .0) (omega (arith, c .before .if1 .left)) in
-    omega arith
+    let a = c .before .before .before .before .before .args in
+    let s = c .listed-span in
+    let f = front (a .p) (a .track .now) (a .marks .now) (a .starts .now) (s .result .length) (c .before .before .before .before .before .pre .1) (s .ensures .0) (omega (arith, c .before .if1 .left)) in
+    omega (arith, f .opening, f .fits)
 
-judge-odd-part-judge-sector-start : (t : ℕ) → judge-odd-lts.Need-part-judge-sector-start (judge-odd-calls t) (judge-odd-at t) judge-odd.Post
+judge-odd-part-judge-sector-start : (t : ℕ) → judge-odd-lts.Need-part-judge-sector-start (
+  done-reads.Asked,
+  done-reads.Learnt,
+  listed-span-reads.Asked,
+  listed-span-reads.Learnt,
+  judge-sector-reads.Asked,
+  judge-sector-reads.Learnt,
+  judge-even-below t,
+  judge-even.Post,
+) (judge-odd-at t) judge-odd.Post
 judge-odd-part-judge-sector-start t c =
-    let a = c .before .before .before .before .args in
-    let s = c .span-at in
-    let f = front (a .p) (a .track .now) (a .marks .now) (s .result .length) (c .before .before .before .before .pre .1) (s .ensures .0) (omega (arith, c .before .if1 .left)) in
-    omega arith
+    let a = c .before .before .before .before .before .args in
+    let s = c .listed-span in
+    let f = front (a .p) (a .track .now) (a .marks .now) (a .starts .now) (s .result .length) (c .before .before .before .before .before .pre .1) (s .ensures .0) (omega (arith, c .before .if1 .left)) in
+    omega (arith, f .opening, f .fits)
 
-judge-odd-part-judge-sector-end : (t : ℕ) → judge-odd-lts.Need-part-judge-sector-end (judge-odd-calls t) (judge-odd-at t) judge-odd.Post
+judge-odd-part-judge-sector-end : (t : ℕ) → judge-odd-lts.Need-part-judge-sector-end (
+  done-reads.Asked,
+  done-reads.Learnt,
+  listed-span-reads.Asked,
+  listed-span-reads.Learnt,
+  judge-sector-reads.Asked,
+  judge-sector-reads.Learnt,
+  judge-even-below t,
+  judge-even.Post,
+) (judge-odd-at t) judge-odd.Post
 judge-odd-part-judge-sector-end t c =
-    let a = c .before .before .before .before .args in
-    let s = c .span-at in
-    let f = front (a .p) (a .track .now) (a .marks .now) (s .result .length) (c .before .before .before .before .pre .1) (s .ensures .0) (omega (arith, c .before .if1 .left)) in
-    omega arith
+    let a = c .before .before .before .before .before .args in
+    let s = c .listed-span in
+    let f = front (a .p) (a .track .now) (a .marks .now) (a .starts .now) (s .result .length) (c .before .before .before .before .before .pre .1) (s .ensures .0) (omega (arith, c .before .if1 .left)) in
+    omega (arith, f .opening, f .fits)
 
-judge-odd-judge-sector-requires : (t : ℕ) → judge-odd-lts.Need-judge-sector-requires (judge-odd-calls t) (judge-odd-at t) judge-odd.Post
-judge-odd-judge-sector-requires t c κs = omega (arith, c .before .before .before .before .before .pre .1 .within)
+judge-odd-judge-sector-requires : (t : ℕ) → judge-odd-lts.Need-judge-sector-requires (
+  done-reads.Asked,
+  done-reads.Learnt,
+  listed-span-reads.Asked,
+  listed-span-reads.Learnt,
+  judge-sector-reads.Asked,
+  judge-sector-reads.Learnt,
+  judge-even-below t,
+  judge-even.Post,
+) (judge-odd-at t) judge-odd.Post
+judge-odd-judge-sector-requires t c κs = omega (arith, c .before .before .before .before .before .before .pre .1 .within)
 
-judge-odd-returns-2 : (t : ℕ) → judge-odd-lts.Need-returns-2 (judge-odd-calls t) (judge-odd-at t) judge-odd.Post
+judge-odd-returns-2 : (t : ℕ) → judge-odd-lts.Need-returns-2 (
+  done-reads.Asked,
+  done-reads.Learnt,
+  listed-span-reads.Asked,
+  listed-span-reads.Learnt,
+  judge-sector-reads.Asked,
+  judge-sector-reads.Learnt,
+  judge-even-below t,
+  judge-even.Post,
+) (judge-odd-at t) judge-odd.Post
 judge-odd-returns-2 t c =
-    let a = c .before .before .before .before .before .before .before .before .args in
-    let s = c .before .before .before .before .span-at in
-    let f = front (a .p) (a .track .now) (a .marks .now) (s .result .length) (c .before .before .before .before .before .before .before .before .pre .1) (s .ensures .0) (omega (arith, c .before .before .before .before .before .if1 .left)) in
-    front-refused (asHome (a .h)) 0 (asAddress (a .named)) (a .p) (s .result .length) (a .track .now) (a .marks .now) f (s .result .last) (s .ensures .1 .0) _ (c .before .before .judge-sector .ensures) (c .if2 .taken)
+    let a = c .before .before .before .before .before .before .before .before .before .args in
+    let s = c .before .before .before .before .listed-span in
+    let f = front (a .p) (a .track .now) (a .marks .now) (a .starts .now) (s .result .length) (c .before .before .before .before .before .before .before .before .before .pre .1) (s .ensures .0) (omega (arith, c .before .before .before .before .before .if1 .left)) in
+    front-refused (asHome (a .h)) 0 (asAddress (a .named)) (a .p) (s .result .length) (a .track .now) (a .marks .now) (a .starts .now) f (s .result .last) (s .ensures .1) _ (c .before .before .judge-sector .ensures) (c .if2 .taken)
 
-judge-odd-sub-judge-even : (t : ℕ) → judge-odd-lts.Need-sub-judge-even (judge-odd-calls t) (judge-odd-at t) judge-odd.Post
+judge-odd-sub-judge-even : (t : ℕ) → judge-odd-lts.Need-sub-judge-even (
+  done-reads.Asked,
+  done-reads.Learnt,
+  listed-span-reads.Asked,
+  listed-span-reads.Learnt,
+  judge-sector-reads.Asked,
+  judge-sector-reads.Learnt,
+  judge-even-below t,
+  judge-even.Post,
+) (judge-odd-at t) judge-odd.Post
 judge-odd-sub-judge-even t c =
-    let a = c .before .before .before .before .before .before .before .before .args in
-    let s = c .before .before .before .before .span-at in
-    let f = front (a .p) (a .track .now) (a .marks .now) (s .result .length) (c .before .before .before .before .before .before .before .before .pre .1) (s .ensures .0) (omega (arith, c .before .before .before .before .before .if1 .left)) in
-    omega arith
+    let a = c .before .before .before .before .before .before .before .before .before .args in
+    let s = c .before .before .before .before .listed-span in
+    let f = front (a .p) (a .track .now) (a .marks .now) (a .starts .now) (s .result .length) (c .before .before .before .before .before .before .before .before .before .pre .1) (s .ensures .0) (omega (arith, c .before .before .before .before .before .if1 .left)) in
+    omega (arith, f .fits)
 
-judge-odd-part-judge-even-start : (t : ℕ) → judge-odd-lts.Need-part-judge-even-start (judge-odd-calls t) (judge-odd-at t) judge-odd.Post
+judge-odd-part-judge-even-start : (t : ℕ) → judge-odd-lts.Need-part-judge-even-start (
+  done-reads.Asked,
+  done-reads.Learnt,
+  listed-span-reads.Asked,
+  listed-span-reads.Learnt,
+  judge-sector-reads.Asked,
+  judge-sector-reads.Learnt,
+  judge-even-below t,
+  judge-even.Post,
+) (judge-odd-at t) judge-odd.Post
 judge-odd-part-judge-even-start t c =
-    let a = c .before .before .before .before .before .before .before .before .args in
-    let s = c .before .before .before .before .span-at in
-    let f = front (a .p) (a .track .now) (a .marks .now) (s .result .length) (c .before .before .before .before .before .before .before .before .pre .1) (s .ensures .0) (omega (arith, c .before .before .before .before .before .if1 .left)) in
-    omega arith
+    let a = c .before .before .before .before .before .before .before .before .before .args in
+    let s = c .before .before .before .before .listed-span in
+    let f = front (a .p) (a .track .now) (a .marks .now) (a .starts .now) (s .result .length) (c .before .before .before .before .before .before .before .before .before .pre .1) (s .ensures .0) (omega (arith, c .before .before .before .before .before .if1 .left)) in
+    omega (arith, f .fits)
 
-judge-odd-part-judge-even-end : (t : ℕ) → judge-odd-lts.Need-part-judge-even-end (judge-odd-calls t) (judge-odd-at t) judge-odd.Post
+judge-odd-part-judge-even-end : (t : ℕ) → judge-odd-lts.Need-part-judge-even-end (
+  done-reads.Asked,
+  done-reads.Learnt,
+  listed-span-reads.Asked,
+  listed-span-reads.Learnt,
+  judge-sector-reads.Asked,
+  judge-sector-reads.Learnt,
+  judge-even-below t,
+  judge-even.Post,
+) (judge-odd-at t) judge-odd.Post
 judge-odd-part-judge-even-end t c =
-    let a = c .before .before .before .before .before .before .before .before .args in
-    let s = c .before .before .before .before .span-at in
-    let f = front (a .p) (a .track .now) (a .marks .now) (s .result .length) (c .before .before .before .before .before .before .before .before .pre .1) (s .ensures .0) (omega (arith, c .before .before .before .before .before .if1 .left)) in
-    omega arith
+    let a = c .before .before .before .before .before .before .before .before .before .args in
+    let s = c .before .before .before .before .listed-span in
+    let f = front (a .p) (a .track .now) (a .marks .now) (a .starts .now) (s .result .length) (c .before .before .before .before .before .before .before .before .before .pre .1) (s .ensures .0) (omega (arith, c .before .before .before .before .before .if1 .left)) in
+    omega (arith, f .fits)
 
-judge-odd-sub-judge-even-2 : (t : ℕ) → judge-odd-lts.Need-sub-judge-even-2 (judge-odd-calls t) (judge-odd-at t) judge-odd.Post
+judge-odd-sub-judge-even-2 : (t : ℕ) → judge-odd-lts.Need-sub-judge-even-2 (
+  done-reads.Asked,
+  done-reads.Learnt,
+  listed-span-reads.Asked,
+  listed-span-reads.Learnt,
+  judge-sector-reads.Asked,
+  judge-sector-reads.Learnt,
+  judge-even-below t,
+  judge-even.Post,
+) (judge-odd-at t) judge-odd.Post
 judge-odd-sub-judge-even-2 t c =
-    let a = c .before .before .before .before .before .before .before .before .before .args in
-    let s = c .before .before .before .before .before .span-at in
-    let f = front (a .p) (a .track .now) (a .marks .now) (s .result .length) (c .before .before .before .before .before .before .before .before .before .pre .1) (s .ensures .0) (omega (arith, c .before .before .before .before .before .before .if1 .left)) in
-    omega (arith, c .before .before .before .before .before .before .before .before .before .pre .1 .lengths)
+    let a = c .before .before .before .before .before .before .before .before .before .before .args in
+    let s = c .before .before .before .before .before .listed-span in
+    let f = front (a .p) (a .track .now) (a .marks .now) (a .starts .now) (s .result .length) (c .before .before .before .before .before .before .before .before .before .before .pre .1) (s .ensures .0) (omega (arith, c .before .before .before .before .before .before .if1 .left)) in
+    omega (arith, f .fits, c .before .before .before .before .before .before .before .before .before .before .pre .1 .lengths)
 
-judge-odd-part-judge-even-start-2 : (t : ℕ) → judge-odd-lts.Need-part-judge-even-start-2 (judge-odd-calls t) (judge-odd-at t) judge-odd.Post
+judge-odd-part-judge-even-start-2 : (t : ℕ) → judge-odd-lts.Need-part-judge-even-start-2 (
+  done-reads.Asked,
+  done-reads.Learnt,
+  listed-span-reads.Asked,
+  listed-span-reads.Learnt,
+  judge-sector-reads.Asked,
+  judge-sector-reads.Learnt,
+  judge-even-below t,
+  judge-even.Post,
+) (judge-odd-at t) judge-odd.Post
 judge-odd-part-judge-even-start-2 t c =
-    let a = c .before .before .before .before .before .before .before .before .before .args in
-    let s = c .before .before .before .before .before .span-at in
-    let f = front (a .p) (a .track .now) (a .marks .now) (s .result .length) (c .before .before .before .before .before .before .before .before .before .pre .1) (s .ensures .0) (omega (arith, c .before .before .before .before .before .before .if1 .left)) in
-    omega (arith, c .before .before .before .before .before .before .before .before .before .pre .1 .lengths)
+    let a = c .before .before .before .before .before .before .before .before .before .before .args in
+    let s = c .before .before .before .before .before .listed-span in
+    let f = front (a .p) (a .track .now) (a .marks .now) (a .starts .now) (s .result .length) (c .before .before .before .before .before .before .before .before .before .before .pre .1) (s .ensures .0) (omega (arith, c .before .before .before .before .before .before .if1 .left)) in
+    omega (arith, f .fits, c .before .before .before .before .before .before .before .before .before .before .pre .1 .lengths)
 
-judge-odd-part-judge-even-end-2 : (t : ℕ) → judge-odd-lts.Need-part-judge-even-end-2 (judge-odd-calls t) (judge-odd-at t) judge-odd.Post
+judge-odd-part-judge-even-end-2 : (t : ℕ) → judge-odd-lts.Need-part-judge-even-end-2 (
+  done-reads.Asked,
+  done-reads.Learnt,
+  listed-span-reads.Asked,
+  listed-span-reads.Learnt,
+  judge-sector-reads.Asked,
+  judge-sector-reads.Learnt,
+  judge-even-below t,
+  judge-even.Post,
+) (judge-odd-at t) judge-odd.Post
 judge-odd-part-judge-even-end-2 t c =
-    let a = c .before .before .before .before .before .before .before .before .before .args in
-    let s = c .before .before .before .before .before .span-at in
-    let f = front (a .p) (a .track .now) (a .marks .now) (s .result .length) (c .before .before .before .before .before .before .before .before .before .pre .1) (s .ensures .0) (omega (arith, c .before .before .before .before .before .before .if1 .left)) in
-    omega (arith, c .before .before .before .before .before .before .before .before .before .pre .1 .lengths)
-
-judge-odd-add-judge-even : (t : ℕ) → judge-odd-lts.Need-add-judge-even (judge-odd-calls t) (judge-odd-at t) judge-odd.Post
-judge-odd-add-judge-even t c =
     let a = c .before .before .before .before .before .before .before .before .before .before .args in
-    let s = c .before .before .before .before .before .before .span-at in
-    let f = front (a .p) (a .track .now) (a .marks .now) (s .result .length) (c .before .before .before .before .before .before .before .before .before .before .pre .1) (s .ensures .0) (omega (arith, c .before .before .before .before .before .before .before .if1 .left)) in
-    omega (arith, c .before .before .before .before .before .before .before .before .before .before .pre .1 .within)
+    let s = c .before .before .before .before .before .listed-span in
+    let f = front (a .p) (a .track .now) (a .marks .now) (a .starts .now) (s .result .length) (c .before .before .before .before .before .before .before .before .before .before .pre .1) (s .ensures .0) (omega (arith, c .before .before .before .before .before .before .if1 .left)) in
+    omega (arith, f .fits, c .before .before .before .before .before .before .before .before .before .before .pre .1 .lengths)
 
-judge-odd-judge-even-requires : (t : ℕ) → judge-odd-lts.Need-judge-even-requires (judge-odd-calls t) (judge-odd-at t) judge-odd.Post
-judge-odd-judge-even-requires t c κs =
-    let a = c .before .before .before .before .before .before .before .before .before .before .args in
-    let s = c .before .before .before .before .before .before .span-at in
-    let f = front (a .p) (a .track .now) (a .marks .now) (s .result .length) (c .before .before .before .before .before .before .before .before .before .before .pre .1) (s .ensures .0) (omega (arith, c .before .before .before .before .before .before .before .if1 .left)) in
-    (omega (arith, length-drop (s .result .length) (a .track .now), ap length (part-all (s .result .length) (a .track .now))), rest-next (a .p) (s .result .length) (a .track .now) (a .marks .now) f)
-
-judge-odd-returns-3 : (t : ℕ) → judge-odd-lts.Need-returns-3 (judge-odd-calls t) (judge-odd-at t) judge-odd.Post
-judge-odd-returns-3 t c =
+judge-odd-sub-judge-even-3 : (t : ℕ) → judge-odd-lts.Need-sub-judge-even-3 (
+  done-reads.Asked,
+  done-reads.Learnt,
+  listed-span-reads.Asked,
+  listed-span-reads.Learnt,
+  judge-sector-reads.Asked,
+  judge-sector-reads.Learnt,
+  judge-even-below t,
+  judge-even.Post,
+) (judge-odd-at t) judge-odd.Post
+judge-odd-sub-judge-even-3 t c =
     let a = c .before .before .before .before .before .before .before .before .before .before .before .args in
-    let s = c .before .before .before .before .before .before .before .span-at in
-    let f = front (a .p) (a .track .now) (a .marks .now) (s .result .length) (c .before .before .before .before .before .before .before .before .before .before .before .pre .1) (s .ensures .0) (omega (arith, c .before .before .before .before .before .before .before .before .if1 .left)) in
-    c .judge-even .ensures ∙ front-good (asHome (a .h)) 0 (asAddress (a .named)) (a .p) (s .result .length) (a .track .now) (a .marks .now) f (s .result .last) (s .ensures .1 .0) _ (c .before .before .before .before .before .judge-sector .ensures) (c .before .before .before .if2 .left)
+    let s = c .before .before .before .before .before .before .listed-span in
+    let f = front (a .p) (a .track .now) (a .marks .now) (a .starts .now) (s .result .length) (c .before .before .before .before .before .before .before .before .before .before .before .pre .1) (s .ensures .0) (omega (arith, c .before .before .before .before .before .before .before .if1 .left)) in
+    omega (arith, f .listed)
+
+judge-odd-part-judge-even-start-3 : (t : ℕ) → judge-odd-lts.Need-part-judge-even-start-3 (
+  done-reads.Asked,
+  done-reads.Learnt,
+  listed-span-reads.Asked,
+  listed-span-reads.Learnt,
+  judge-sector-reads.Asked,
+  judge-sector-reads.Learnt,
+  judge-even-below t,
+  judge-even.Post,
+) (judge-odd-at t) judge-odd.Post
+judge-odd-part-judge-even-start-3 t c =
+    let a = c .before .before .before .before .before .before .before .before .before .before .before .args in
+    let s = c .before .before .before .before .before .before .listed-span in
+    let f = front (a .p) (a .track .now) (a .marks .now) (a .starts .now) (s .result .length) (c .before .before .before .before .before .before .before .before .before .before .before .pre .1) (s .ensures .0) (omega (arith, c .before .before .before .before .before .before .before .if1 .left)) in
+    omega (arith, f .listed)
+
+judge-odd-part-judge-even-end-3 : (t : ℕ) → judge-odd-lts.Need-part-judge-even-end-3 (
+  done-reads.Asked,
+  done-reads.Learnt,
+  listed-span-reads.Asked,
+  listed-span-reads.Learnt,
+  judge-sector-reads.Asked,
+  judge-sector-reads.Learnt,
+  judge-even-below t,
+  judge-even.Post,
+) (judge-odd-at t) judge-odd.Post
+judge-odd-part-judge-even-end-3 t c =
+    let a = c .before .before .before .before .before .before .before .before .before .before .before .args in
+    let s = c .before .before .before .before .before .before .listed-span in
+    let f = front (a .p) (a .track .now) (a .marks .now) (a .starts .now) (s .result .length) (c .before .before .before .before .before .before .before .before .before .before .before .pre .1) (s .ensures .0) (omega (arith, c .before .before .before .before .before .before .before .if1 .left)) in
+    omega (arith, f .listed)
+
+judge-odd-add-judge-even : (t : ℕ) → judge-odd-lts.Need-add-judge-even (
+  done-reads.Asked,
+  done-reads.Learnt,
+  listed-span-reads.Asked,
+  listed-span-reads.Learnt,
+  judge-sector-reads.Asked,
+  judge-sector-reads.Learnt,
+  judge-even-below t,
+  judge-even.Post,
+) (judge-odd-at t) judge-odd.Post
+judge-odd-add-judge-even t c =
+    let a = c .before .before .before .before .before .before .before .before .before .before .before .before .args in
+    let s = c .before .before .before .before .before .before .before .listed-span in
+    let f = front (a .p) (a .track .now) (a .marks .now) (a .starts .now) (s .result .length) (c .before .before .before .before .before .before .before .before .before .before .before .before .pre .1) (s .ensures .0) (omega (arith, c .before .before .before .before .before .before .before .before .if1 .left)) in
+    omega (arith, f .fits, c .before .before .before .before .before .before .before .before .before .before .before .before .pre .1 .within)
+
+judge-odd-judge-even-requires : (t : ℕ) → judge-odd-lts.Need-judge-even-requires (
+  done-reads.Asked,
+  done-reads.Learnt,
+  listed-span-reads.Asked,
+  listed-span-reads.Learnt,
+  judge-sector-reads.Asked,
+  judge-sector-reads.Learnt,
+  judge-even-below t,
+  judge-even.Post,
+) (judge-odd-at t) judge-odd.Post
+judge-odd-judge-even-requires t c κs =
+    let a = c .before .before .before .before .before .before .before .before .before .before .before .before .args in
+    let s = c .before .before .before .before .before .before .before .listed-span in
+    let f = front (a .p) (a .track .now) (a .marks .now) (a .starts .now) (s .result .length) (c .before .before .before .before .before .before .before .before .before .before .before .before .pre .1) (s .ensures .0) (omega (arith, c .before .before .before .before .before .before .before .before .if1 .left)) in
+    (omega (arith, f .opening, f .fits, length-drop (s .result .length) (a .track .now), ap length (part-all (s .result .length) (a .track .now))), rest-next (a .p) (s .result .length) (a .track .now) (a .marks .now) (a .starts .now) f)
+
+judge-odd-returns-3 : (t : ℕ) → judge-odd-lts.Need-returns-3 (
+  done-reads.Asked,
+  done-reads.Learnt,
+  listed-span-reads.Asked,
+  listed-span-reads.Learnt,
+  judge-sector-reads.Asked,
+  judge-sector-reads.Learnt,
+  judge-even-below t,
+  judge-even.Post,
+) (judge-odd-at t) judge-odd.Post
+judge-odd-returns-3 t c =
+    let a = c .before .before .before .before .before .before .before .before .before .before .before .before .before .args in
+    let s = c .before .before .before .before .before .before .before .before .listed-span in
+    let f = front (a .p) (a .track .now) (a .marks .now) (a .starts .now) (s .result .length) (c .before .before .before .before .before .before .before .before .before .before .before .before .before .pre .1) (s .ensures .0) (omega (arith, c .before .before .before .before .before .before .before .before .before .if1 .left)) in
+    c .judge-even .ensures ∙ front-good (asHome (a .h)) 0 (asAddress (a .named)) (a .p) (s .result .length) (a .track .now) (a .marks .now) (a .starts .now) f (s .result .last) (s .ensures .1) _ (c .before .before .before .before .before .before .judge-sector .ensures) (c .before .before .before .before .if2 .left)
 
 pub +judge-even+judge-odd-spec : {M : Type 1} → statement M
-+judge-even+judge-odd-spec = close μ-judge-even μ-judge-odd (λ t. judge-even-lts.spec (judge-even-calls t)
++judge-even+judge-odd-spec = close μ-judge-even μ-judge-odd (λ t. judge-even-lts.spec (
+  done-reads.Asked,
+  done-reads.Learnt,
+  listed-span-reads.Asked,
+  listed-span-reads.Learnt,
+  judge-sector-reads.Asked,
+  judge-sector-reads.Learnt,
+  judge-odd-below t,
+  judge-odd.Post,
+)
     (judge-even-at t)
     judge-even.Post
     (judge-even-done-requires t)
     (judge-even-returns t)
-    (judge-even-span-at-requires t)
+    (judge-even-add-listed-span t)
+    (judge-even-listed-span-requires t)
     (judge-even-sub-judge-sector t)
     (judge-even-part-judge-sector-start t)
     (judge-even-part-judge-sector-end t)
@@ -282,15 +715,28 @@ pub +judge-even+judge-odd-spec : {M : Type 1} → statement M
     (judge-even-sub-judge-odd-2 t)
     (judge-even-part-judge-odd-start-2 t)
     (judge-even-part-judge-odd-end-2 t)
+    (judge-even-sub-judge-odd-3 t)
+    (judge-even-part-judge-odd-start-3 t)
+    (judge-even-part-judge-odd-end-3 t)
     (judge-even-add-judge-odd t)
     (judge-even-judge-odd-requires t)
     (judge-even-returns-3 t))
-    λ t. judge-odd-lts.spec (judge-odd-calls t)
+    λ t. judge-odd-lts.spec (
+      done-reads.Asked,
+      done-reads.Learnt,
+      listed-span-reads.Asked,
+      listed-span-reads.Learnt,
+      judge-sector-reads.Asked,
+      judge-sector-reads.Learnt,
+      judge-even-below t,
+      judge-even.Post,
+    )
     (judge-odd-at t)
     judge-odd.Post
     (judge-odd-done-requires t)
     (judge-odd-returns t)
-    (judge-odd-span-at-requires t)
+    (judge-odd-add-listed-span t)
+    (judge-odd-listed-span-requires t)
     (judge-odd-sub-judge-sector t)
     (judge-odd-part-judge-sector-start t)
     (judge-odd-part-judge-sector-end t)
@@ -302,6 +748,9 @@ pub +judge-even+judge-odd-spec : {M : Type 1} → statement M
     (judge-odd-sub-judge-even-2 t)
     (judge-odd-part-judge-even-start-2 t)
     (judge-odd-part-judge-even-end-2 t)
+    (judge-odd-sub-judge-even-3 t)
+    (judge-odd-part-judge-even-start-3 t)
+    (judge-odd-part-judge-even-end-3 t)
     (judge-odd-add-judge-even t)
     (judge-odd-judge-even-requires t)
     (judge-odd-returns-3 t)

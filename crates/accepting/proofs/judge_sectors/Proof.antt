@@ -1,6 +1,8 @@
 -- `judge_sectors` meets its contract: sector 0 by its own span, and what is left behind it by the odd sector's check.
-use mathlib.Core.Path.{sym, _∙_}
+use mathlib.Core.Path.{refl, sym, _∙_}
+use Prim.Native.Nat.{_-_}
 use native.Mathlib.Omega.{arith}
+use lib.ListN.{length, getD}
 use borrow.Author.Tests.{not-true, not-false}
 use Rattle.sector.specs.As.{asAddress, asHome}
 use Rattle.accepting.proofs.AcceptFirst.{first-front, first-rest, first-missing, first-refused, first-good}
@@ -16,124 +18,127 @@ first-count-missing-requires c κs = search needs
 
 returns : tie.Need-returns
 returns c =
-    let a = c .before .before .before .before .before .args in
-    c .first-count-missing .ensures ∙ sym (first-missing (asHome (a .h)) (a .p) (a .track .now) (a .marks .now) (c .before .before .before .before .before .pre) (sym (c .before .before .opens-plain .ensures) ∙ not-true _ (c .before .if1 .taken)))
+    let a = c .before .before .before .before .before .before .args in
+    c .first-count-missing .ensures ∙ sym (first-missing (asHome (a .h)) (a .p) (a .track .now) (a .marks .now) (a .starts .now) (c .before .before .before .before .before .before .pre) (sym (c .before .before .opens-plain .ensures) ∙ not-true _ (c .before .if1 .taken)))
 
-span-at-requires : tie.Need-span-at-requires
-span-at-requires c κs = search needs
+listed-span-requires : tie.Need-listed-span-requires
+listed-span-requires c κs =
+    let a = c .before .before .before .before .before .args in
+    let f = first-front (a .p) (a .track .now) (a .marks .now) (a .starts .now) (getD (a .starts .now) 0 (length (a .track .now)) - a .p) (c .before .before .before .before .before .pre) (sym (c .before .opens-plain .ensures) ∙ not-false _ (c .if1 .left)) refl in
+    omega (arith, f .opening)
 
 add-from : tie.Need-add-from
 add-from c = search needs
 
 add-to : tie.Need-add-to
 add-to c =
-    let a = c .before .before .before .before .before .before .args in
-    let s = c .before .span-at in
-    let f = first-front (a .p) (a .track .now) (a .marks .now) (s .result .length) (c .before .before .before .before .before .before .pre) (sym (c .before .before .before .opens-plain .ensures) ∙ not-false _ (c .before .before .if1 .left)) (s .ensures .0) in
-    omega (arith, c .before .before .before .before .before .before .pre .within)
+    let a = c .before .before .before .before .before .before .before .args in
+    let s = c .before .listed-span in
+    let f = first-front (a .p) (a .track .now) (a .marks .now) (a .starts .now) (s .result .length) (c .before .before .before .before .before .before .before .pre) (sym (c .before .before .before .opens-plain .ensures) ∙ not-false _ (c .before .before .if1 .left)) (s .ensures .0) in
+    omega (arith, f .fits, c .before .before .before .before .before .before .before .pre .within)
 
 sub-judge-sector : tie.Need-sub-judge-sector
 sub-judge-sector c =
-    let a = c .before .before .before .before .before .before .args in
-    let s = c .before .span-at in
-    let f = first-front (a .p) (a .track .now) (a .marks .now) (s .result .length) (c .before .before .before .before .before .before .pre) (sym (c .before .before .before .opens-plain .ensures) ∙ not-false _ (c .before .before .if1 .left)) (s .ensures .0) in
-    omega arith
+    let a = c .before .before .before .before .before .before .before .args in
+    let s = c .before .listed-span in
+    let f = first-front (a .p) (a .track .now) (a .marks .now) (a .starts .now) (s .result .length) (c .before .before .before .before .before .before .before .pre) (sym (c .before .before .before .opens-plain .ensures) ∙ not-false _ (c .before .before .if1 .left)) (s .ensures .0) in
+    omega (arith, f .opening, f .fits)
 
 part-judge-sector-start : tie.Need-part-judge-sector-start
 part-judge-sector-start c =
-    let a = c .before .before .before .before .before .before .args in
-    let s = c .before .span-at in
-    let f = first-front (a .p) (a .track .now) (a .marks .now) (s .result .length) (c .before .before .before .before .before .before .pre) (sym (c .before .before .before .opens-plain .ensures) ∙ not-false _ (c .before .before .if1 .left)) (s .ensures .0) in
-    omega arith
+    let a = c .before .before .before .before .before .before .before .args in
+    let s = c .before .listed-span in
+    let f = first-front (a .p) (a .track .now) (a .marks .now) (a .starts .now) (s .result .length) (c .before .before .before .before .before .before .before .pre) (sym (c .before .before .before .opens-plain .ensures) ∙ not-false _ (c .before .before .if1 .left)) (s .ensures .0) in
+    omega (arith, f .opening, f .fits)
 
 part-judge-sector-end : tie.Need-part-judge-sector-end
 part-judge-sector-end c =
-    let a = c .before .before .before .before .before .before .args in
-    let s = c .before .span-at in
-    let f = first-front (a .p) (a .track .now) (a .marks .now) (s .result .length) (c .before .before .before .before .before .before .pre) (sym (c .before .before .before .opens-plain .ensures) ∙ not-false _ (c .before .before .if1 .left)) (s .ensures .0) in
-    omega arith
+    let a = c .before .before .before .before .before .before .before .args in
+    let s = c .before .listed-span in
+    let f = first-front (a .p) (a .track .now) (a .marks .now) (a .starts .now) (s .result .length) (c .before .before .before .before .before .before .before .pre) (sym (c .before .before .before .opens-plain .ensures) ∙ not-false _ (c .before .before .if1 .left)) (s .ensures .0) in
+    omega (arith, f .opening, f .fits)
 
 judge-sector-requires : tie.Need-judge-sector-requires
 judge-sector-requires c κs = search needs
 
 returns-2 : tie.Need-returns-2
 returns-2 c =
-    let a = c .before .before .before .before .before .before .before .before .before .before .args in
-    let s = c .before .before .before .before .before .span-at in
-    let f = first-front (a .p) (a .track .now) (a .marks .now) (s .result .length) (c .before .before .before .before .before .before .before .before .before .before .pre) (sym (c .before .before .before .before .before .before .before .opens-plain .ensures) ∙ not-false _ (c .before .before .before .before .before .before .if1 .left)) (s .ensures .0) in
-    first-refused (asHome (a .h)) (a .p) (s .result .length) (a .track .now) (a .marks .now) f (s .result .last) (s .ensures .1 .0) _ (c .before .before .judge-sector .ensures) (c .if2 .taken)
+    let a = c .before .before .before .before .before .before .before .before .before .before .before .args in
+    let s = c .before .before .before .before .before .listed-span in
+    let f = first-front (a .p) (a .track .now) (a .marks .now) (a .starts .now) (s .result .length) (c .before .before .before .before .before .before .before .before .before .before .before .pre) (sym (c .before .before .before .before .before .before .before .opens-plain .ensures) ∙ not-false _ (c .before .before .before .before .before .before .if1 .left)) (s .ensures .0) in
+    first-refused (asHome (a .h)) (a .p) (s .result .length) (a .track .now) (a .marks .now) (a .starts .now) f (s .result .last) (s .ensures .1) _ (c .before .before .judge-sector .ensures) (c .if2 .taken)
 
 sub-address-in : tie.Need-sub-address-in
 sub-address-in c =
-    let a = c .before .before .before .before .before .before .before .before .before .before .args in
-    let s = c .before .before .before .before .before .span-at in
-    let f = first-front (a .p) (a .track .now) (a .marks .now) (s .result .length) (c .before .before .before .before .before .before .before .before .before .before .pre) (sym (c .before .before .before .before .before .before .before .opens-plain .ensures) ∙ not-false _ (c .before .before .before .before .before .before .if1 .left)) (s .ensures .0) in
-    omega arith
+    let a = c .before .before .before .before .before .before .before .before .before .before .before .args in
+    let s = c .before .before .before .before .before .listed-span in
+    let f = first-front (a .p) (a .track .now) (a .marks .now) (a .starts .now) (s .result .length) (c .before .before .before .before .before .before .before .before .before .before .before .pre) (sym (c .before .before .before .before .before .before .before .opens-plain .ensures) ∙ not-false _ (c .before .before .before .before .before .before .if1 .left)) (s .ensures .0) in
+    omega (arith, f .opening, f .fits)
 
 part-address-in-start : tie.Need-part-address-in-start
 part-address-in-start c =
-    let a = c .before .before .before .before .before .before .before .before .before .before .args in
-    let s = c .before .before .before .before .before .span-at in
-    let f = first-front (a .p) (a .track .now) (a .marks .now) (s .result .length) (c .before .before .before .before .before .before .before .before .before .before .pre) (sym (c .before .before .before .before .before .before .before .opens-plain .ensures) ∙ not-false _ (c .before .before .before .before .before .before .if1 .left)) (s .ensures .0) in
-    omega arith
+    let a = c .before .before .before .before .before .before .before .before .before .before .before .args in
+    let s = c .before .before .before .before .before .listed-span in
+    let f = first-front (a .p) (a .track .now) (a .marks .now) (a .starts .now) (s .result .length) (c .before .before .before .before .before .before .before .before .before .before .before .pre) (sym (c .before .before .before .before .before .before .before .opens-plain .ensures) ∙ not-false _ (c .before .before .before .before .before .before .if1 .left)) (s .ensures .0) in
+    omega (arith, f .opening, f .fits)
 
 part-address-in-end : tie.Need-part-address-in-end
 part-address-in-end c =
-    let a = c .before .before .before .before .before .before .before .before .before .before .args in
-    let s = c .before .before .before .before .before .span-at in
-    let f = first-front (a .p) (a .track .now) (a .marks .now) (s .result .length) (c .before .before .before .before .before .before .before .before .before .before .pre) (sym (c .before .before .before .before .before .before .before .opens-plain .ensures) ∙ not-false _ (c .before .before .before .before .before .before .if1 .left)) (s .ensures .0) in
-    omega arith
+    let a = c .before .before .before .before .before .before .before .before .before .before .before .args in
+    let s = c .before .before .before .before .before .listed-span in
+    let f = first-front (a .p) (a .track .now) (a .marks .now) (a .starts .now) (s .result .length) (c .before .before .before .before .before .before .before .before .before .before .before .pre) (sym (c .before .before .before .before .before .before .before .opens-plain .ensures) ∙ not-false _ (c .before .before .before .before .before .before .if1 .left)) (s .ensures .0) in
+    omega (arith, f .opening, f .fits)
 
 address-in-requires : tie.Need-address-in-requires
 address-in-requires c κs = search needs
 
 sub-judge-odd : tie.Need-sub-judge-odd
 sub-judge-odd c =
-    let a = c .before .before .before .before .before .before .before .before .before .before .before .before .args in
-    let s = c .before .before .before .before .before .before .before .span-at in
-    let f = first-front (a .p) (a .track .now) (a .marks .now) (s .result .length) (c .before .before .before .before .before .before .before .before .before .before .before .before .pre) (sym (c .before .before .before .before .before .before .before .before .before .opens-plain .ensures) ∙ not-false _ (c .before .before .before .before .before .before .before .before .if1 .left)) (s .ensures .0) in
-    omega arith
+    let a = c .before .before .before .before .before .before .before .before .before .before .before .before .before .args in
+    let s = c .before .before .before .before .before .before .before .listed-span in
+    let f = first-front (a .p) (a .track .now) (a .marks .now) (a .starts .now) (s .result .length) (c .before .before .before .before .before .before .before .before .before .before .before .before .before .pre) (sym (c .before .before .before .before .before .before .before .before .before .opens-plain .ensures) ∙ not-false _ (c .before .before .before .before .before .before .before .before .if1 .left)) (s .ensures .0) in
+    omega (arith, f .fits)
 
 part-judge-odd-start : tie.Need-part-judge-odd-start
 part-judge-odd-start c =
-    let a = c .before .before .before .before .before .before .before .before .before .before .before .before .args in
-    let s = c .before .before .before .before .before .before .before .span-at in
-    let f = first-front (a .p) (a .track .now) (a .marks .now) (s .result .length) (c .before .before .before .before .before .before .before .before .before .before .before .before .pre) (sym (c .before .before .before .before .before .before .before .before .before .opens-plain .ensures) ∙ not-false _ (c .before .before .before .before .before .before .before .before .if1 .left)) (s .ensures .0) in
-    omega arith
+    let a = c .before .before .before .before .before .before .before .before .before .before .before .before .before .args in
+    let s = c .before .before .before .before .before .before .before .listed-span in
+    let f = first-front (a .p) (a .track .now) (a .marks .now) (a .starts .now) (s .result .length) (c .before .before .before .before .before .before .before .before .before .before .before .before .before .pre) (sym (c .before .before .before .before .before .before .before .before .before .opens-plain .ensures) ∙ not-false _ (c .before .before .before .before .before .before .before .before .if1 .left)) (s .ensures .0) in
+    omega (arith, f .fits)
 
 part-judge-odd-end : tie.Need-part-judge-odd-end
 part-judge-odd-end c = search needs
 
 sub-judge-odd-2 : tie.Need-sub-judge-odd-2
 sub-judge-odd-2 c =
-    let a = c .before .before .before .before .before .before .before .before .before .before .before .before .before .args in
-    let s = c .before .before .before .before .before .before .before .before .span-at in
-    let f = first-front (a .p) (a .track .now) (a .marks .now) (s .result .length) (c .before .before .before .before .before .before .before .before .before .before .before .before .before .pre) (sym (c .before .before .before .before .before .before .before .before .before .before .opens-plain .ensures) ∙ not-false _ (c .before .before .before .before .before .before .before .before .before .if1 .left)) (s .ensures .0) in
-    omega (arith, c .before .before .before .before .before .before .before .before .before .before .before .before .before .pre .lengths)
+    let a = c .before .before .before .before .before .before .before .before .before .before .before .before .before .before .args in
+    let s = c .before .before .before .before .before .before .before .before .listed-span in
+    let f = first-front (a .p) (a .track .now) (a .marks .now) (a .starts .now) (s .result .length) (c .before .before .before .before .before .before .before .before .before .before .before .before .before .before .pre) (sym (c .before .before .before .before .before .before .before .before .before .before .opens-plain .ensures) ∙ not-false _ (c .before .before .before .before .before .before .before .before .before .if1 .left)) (s .ensures .0) in
+    omega (arith, f .fits, c .before .before .before .before .before .before .before .before .before .before .before .before .before .before .pre .lengths)
 
 part-judge-odd-start-2 : tie.Need-part-judge-odd-start-2
 part-judge-odd-start-2 c =
-    let a = c .before .before .before .before .before .before .before .before .before .before .before .before .before .args in
-    let s = c .before .before .before .before .before .before .before .before .span-at in
-    let f = first-front (a .p) (a .track .now) (a .marks .now) (s .result .length) (c .before .before .before .before .before .before .before .before .before .before .before .before .before .pre) (sym (c .before .before .before .before .before .before .before .before .before .before .opens-plain .ensures) ∙ not-false _ (c .before .before .before .before .before .before .before .before .before .if1 .left)) (s .ensures .0) in
-    omega (arith, c .before .before .before .before .before .before .before .before .before .before .before .before .before .pre .lengths)
+    let a = c .before .before .before .before .before .before .before .before .before .before .before .before .before .before .args in
+    let s = c .before .before .before .before .before .before .before .before .listed-span in
+    let f = first-front (a .p) (a .track .now) (a .marks .now) (a .starts .now) (s .result .length) (c .before .before .before .before .before .before .before .before .before .before .before .before .before .before .pre) (sym (c .before .before .before .before .before .before .before .before .before .before .opens-plain .ensures) ∙ not-false _ (c .before .before .before .before .before .before .before .before .before .if1 .left)) (s .ensures .0) in
+    omega (arith, f .fits, c .before .before .before .before .before .before .before .before .before .before .before .before .before .before .pre .lengths)
 
 part-judge-odd-end-2 : tie.Need-part-judge-odd-end-2
 part-judge-odd-end-2 c = search needs
 
 judge-odd-requires : tie.Need-judge-odd-requires
 judge-odd-requires c κs =
-    let a = c .before .before .before .before .before .before .before .before .before .before .before .before .before .before .args in
-    let s = c .before .before .before .before .before .before .before .before .before .span-at in
-    let f = first-front (a .p) (a .track .now) (a .marks .now) (s .result .length) (c .before .before .before .before .before .before .before .before .before .before .before .before .before .before .pre) (sym (c .before .before .before .before .before .before .before .before .before .before .before .opens-plain .ensures) ∙ not-false _ (c .before .before .before .before .before .before .before .before .before .before .if1 .left)) (s .ensures .0) in
-    first-rest (a .p) (s .result .length) (a .track .now) (a .marks .now) f
+    let a = c .before .before .before .before .before .before .before .before .before .before .before .before .before .before .before .args in
+    let s = c .before .before .before .before .before .before .before .before .before .listed-span in
+    let f = first-front (a .p) (a .track .now) (a .marks .now) (a .starts .now) (s .result .length) (c .before .before .before .before .before .before .before .before .before .before .before .before .before .before .before .pre) (sym (c .before .before .before .before .before .before .before .before .before .before .before .opens-plain .ensures) ∙ not-false _ (c .before .before .before .before .before .before .before .before .before .before .if1 .left)) (s .ensures .0) in
+    first-rest (a .p) (s .result .length) (a .track .now) (a .marks .now) (a .starts .now) f
 
 returns-3 : tie.Need-returns-3
 returns-3 c =
-    let a = c .before .before .before .before .before .before .before .before .before .before .before .before .before .before .before .args in
-    let s = c .before .before .before .before .before .before .before .before .before .before .span-at in
-    let f = first-front (a .p) (a .track .now) (a .marks .now) (s .result .length) (c .before .before .before .before .before .before .before .before .before .before .before .before .before .before .before .pre) (sym (c .before .before .before .before .before .before .before .before .before .before .before .before .opens-plain .ensures) ∙ not-false _ (c .before .before .before .before .before .before .before .before .before .before .before .if1 .left)) (s .ensures .0) in
-    c .judge-odd .ensures ∙ first-good (asHome (a .h)) (a .p) (s .result .length) (a .track .now) (a .marks .now) f (s .result .last) (s .ensures .1 .0) _ (c .before .before .before .before .before .before .before .judge-sector .ensures) (asAddress (c .before .before .before .address-in .result)) (c .before .before .before .address-in .ensures) (c .before .before .before .before .before .if2 .left)
+    let a = c .before .before .before .before .before .before .before .before .before .before .before .before .before .before .before .before .args in
+    let s = c .before .before .before .before .before .before .before .before .before .before .listed-span in
+    let f = first-front (a .p) (a .track .now) (a .marks .now) (a .starts .now) (s .result .length) (c .before .before .before .before .before .before .before .before .before .before .before .before .before .before .before .before .pre) (sym (c .before .before .before .before .before .before .before .before .before .before .before .before .opens-plain .ensures) ∙ not-false _ (c .before .before .before .before .before .before .before .before .before .before .before .if1 .left)) (s .ensures .0) in
+    c .judge-odd .ensures ∙ first-good (asHome (a .h)) (a .p) (s .result .length) (a .track .now) (a .marks .now) (a .starts .now) f (s .result .last) (s .ensures .1) _ (c .before .before .before .before .before .before .before .judge-sector .ensures) (asAddress (c .before .before .before .address-in .result)) (c .before .before .before .address-in .ensures) (c .before .before .before .before .before .if2 .left)
 
 pub judge-sectors-spec : {M : Type 1} → statement M
 judge-sectors-spec =
@@ -142,7 +147,7 @@ judge-sectors-spec =
     opens-plain-requires
     first-count-missing-requires
     returns
-    span-at-requires
+    listed-span-requires
     add-from
     add-to
     sub-judge-sector
