@@ -2,5 +2,4 @@
 pub mod Cells
 pub mod Home
 pub mod Run
-pub mod Stray
 pub mod Jump

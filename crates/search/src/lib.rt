@@ -1,20 +1,15 @@
-// Searching a lent track and its marks: the test of what is lent, openings, home, spans and stray marks.
+// Searching a lent track and its marks: the test of what is lent, openings, home and spans.
 ghost use mathlib.Core.Path.{_≡_};
-ghost use mathlib.Core.Bool.{_&&_};
 ghost use Prim.Native.Nat.{_+_, _-_, _≤_};
 ghost use lib.ListN.{length, drop};
-ghost use lib.Dec.{leb};
 ghost use Rattle.format.specs.Lent.{lengthRight, marksLegal, lentForWriting, lentForReading, cells};
 ghost use Rattle.format.specs.Opening.{startsWith, plainOpening, opens};
 ghost use Rattle.format.specs.Home.{findHome};
 ghost use Rattle.format.specs.Span.{unmarkedRun, runsToIndex, spanLength};
-ghost use Rattle.format.specs.Accept.{judgeMarks};
 ghost use Rattle.search.specs.Place.{judgedPlace, inWindow};
-ghost use Rattle.search.specs.Stray.{judgedMarks};
 use format::layout::HOME_FIRST;
 use format::layout::HOME_LAST;
 use format::layout::LONGEST;
-use format::layout::MARKED;
 use format::layout::MARKED_OPENING;
 use format::layout::MARKED_OPENING_MARKS;
 use format::layout::PLAIN;
@@ -205,39 +200,4 @@ pub fn span_at(track: &[u8], marks: &[u8], p: usize, o: usize) -> Span
         length: o + run - 5,
         last: false,
     }
-}
-
-// Whether a marked opening stands at place q, and q is e or later.
-fn opens_behind(track: &[u8], marks: &[u8], e: usize, q: usize) -> bool
-    ensures { λ r. ⌜ r ≡ (opens (drop q (cells (now (track .entry)) (now (marks .entry)))) && leb e q) ⌝ }
-{
-    if q < e {
-        return false;
-    }
-    opens_marked(track, marks, q)
-}
-
-// The place of the lowest stray mark, or that there is none.
-pub enum Strayed {
-    Nowhere,
-    At(usize),
-}
-
-// The lowest mark outside a whole opening, or in one that starts before place e.
-pub fn judge_marks(track: &[u8], marks: &[u8], e: usize) -> Strayed
-    ensures { λ r. ⌜ judgedMarks r ≡ judgeMarks e 0 0 (cells (now (track .entry)) (now (marks .entry))) ⌝ }
-{
-    let n = cell_count(track, marks);
-    let mut q = 0;
-    while q < n {
-        if opens_behind(track, marks, e, q) {
-            q += MARKED;
-            continue;
-        }
-        if marks[q] != 0 {
-            return Strayed::At(q);
-        }
-        q += 1;
-    }
-    Strayed::Nowhere
 }
