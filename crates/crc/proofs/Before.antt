@@ -16,7 +16,7 @@ use Rattle.crc.proofs.Turn.{bring-digits, bring-byte}
 use Rattle.crc.proofs.Check.{check-complement}
 
 -- In which half a byte falls goes by the parity p of the number of bytes behind it.
-half-parity : (n p b : ℕ) → n % 2 ≡ p → inHalf n b ≡ pick (eqb p 0) b (b * 256)
+pub half-parity : (n p b : ℕ) → n % 2 ≡ p → inHalf n b ≡ pick (eqb p 0) b (b * 256)
 unfolding inHalf
 half-parity n p b e = ap (λ (z : ℕ). pick (eqb z 0) b (b * 256)) e
 
@@ -31,7 +31,7 @@ unfolding inHalf
 half-zero n = cases (eqb (n % 2) 0) (λ e. rw e refl) (λ e. rw e refl)
 
 -- To exclusive-or x and y into the two halves before the bytes bs are brought down changes the remainder as two bytes x and y before bs do.
-remainder-added : (bs : List ℕ) (h l x y : ℕ) → h < 256 → l < 256 → x < 256 → y < 256
+pub remainder-added : (bs : List ℕ) (h l x y : ℕ) → h < 256 → l < 256 → x < 256 → y < 256
     → remainder (bitXor h x * 256 + bitXor l y) (coefficients bs)
     ≡ bitXor (remainder (h * 256 + l) (coefficients bs)) (inHalf (suc (length bs)) x + inHalf (length bs) y)
 unfolding coefficients remainder

@@ -11,6 +11,9 @@ pub mod Shift
 pub mod Halves
 pub mod Check
 pub mod Before
+pub mod Parts
+pub mod Cut
+pub mod Lanes
 pub mod Agreement
 pub mod Checked
 pub mod Burst

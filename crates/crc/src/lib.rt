@@ -3,6 +3,10 @@ ghost use mathlib.Core.Path.{_≡_};
 ghost use Prim.Native.Nat.{_+_, _*_};
 ghost use Rattle.crc.specs.Check.{coefficients, remainder, checkOf, agrees};
 
+mod wide;
+
+use wide::remainder_wide;
+
 // The number that two bytes make, the high one first.
 fn from_be_bytes(high: u8, low: u8) -> u16
     ensures { λ r. ⌜ r ≡ high * 256 + low ⌝ }
@@ -33,7 +37,7 @@ fn remainder_of(bytes: &[u8]) -> u16
 pub fn check_of(bytes: &[u8]) -> u16
     ensures { λ r. ⌜ r ≡ checkOf (now (bytes .entry)) ⌝ }
 {
-    65535 - remainder_of(bytes)
+    65535 - remainder_wide(bytes)
 }
 
 // Whether the check of the bytes is stored as the byte high and then the byte low.

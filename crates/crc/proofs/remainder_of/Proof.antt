@@ -1,6 +1,6 @@
 -- `remainder_of` meets its contract: at each turn the two halves are those of the remainder of the bytes behind the remaining ones.
 use mathlib.Core.Path.{_≡_, refl, sym, ap, _∙_}
-use Prim.Native.Nat.{ℕ, suc, _+_, _-_, _*_, _%_, _≤_, _<_}
+use Prim.Native.Nat.{ℕ, _+_, _-_, _*_, _%_, _≤_, _<_}
 use native.Mathlib.Omega.{arith}
 use borrow.Author.Needs.{needs}
 use mathlib.Core.List.{List, _∷_}
@@ -10,15 +10,9 @@ use lib.Seq.{drop-length, drop-cons}
 use lib.Bits.{bitXor, xor-lt}
 use Rattle.crc.specs.Check.{remainder, coefficients}
 use Rattle.crc.proofs.Before.{low-before, high-before}
+use Rattle.crc.proofs.Cut.{drop-two}
 use Rattle.crc.proofs.remainder_of.Statement.{statement}
 use Rattle.crc.proofs.remainder_of.Tie as tie
-
--- From place k on stand the bytes at k and at the next place, j, and then those from the place after that, n, on.
-drop-two : (s : List ℕ) (n k j : ℕ) → n ≡ k + 2 → j ≡ k + 1 → n ≤ length s → drop k s ≡ getD s k 0 ∷ getD s j 0 ∷ drop n s
-drop-two s n k j en ej m =
-    let sn : n ≡ suc j = omega arith in
-    let sj : j ≡ suc k = omega arith in
-    drop-cons s k 0 (omega arith) ∙ ap (λ (r : List ℕ). getD s k 0 ∷ r) (rw (← sj) (drop-cons s j 0 (omega arith) ∙ rw sn refl))
 
 -- What holds at each turn: behind the remaining bytes stands an even number of others, and the halves are those of their remainder.
 abbrev Inv-loop : tie.InvT-loop
