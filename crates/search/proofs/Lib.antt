@@ -3,3 +3,4 @@ pub mod Cells
 pub mod Home
 pub mod Run
 pub mod Jump
+pub mod Fold

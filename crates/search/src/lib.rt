@@ -40,14 +40,13 @@ pub fn lent_for_writing(l: usize, k: usize) -> bool
 pub fn marks_legal(marks: &[u8]) -> bool
     ensures { λ r. ⌜ r ≡ marksLegal (now (marks .entry)) ⌝ }
 {
+    let mut any: u8 = 0;
     let mut i = 0;
     while i < marks.len() {
-        if marks[i] > 1 {
-            return false;
-        }
+        any |= marks[i];
         i += 1;
     }
-    true
+    any < 2
 }
 
 // Whether a pair is lent for reading within the rule.
