@@ -3,8 +3,8 @@
 mod common;
 
 use common::{
-    answer, expected, lent, new_body, new_sector, new_track, noise, reads_back, same_buffers,
-    Tally, Track,
+    alike, answer, expected, lent, new_body, new_sector, new_track, noise, reads_back,
+    same_buffers, Tally, Track,
 };
 use reference::generate::{
     bit_cells_of, sound, wanted_add, wanted_blank, wanted_correct, wanted_from_cells,
@@ -36,8 +36,9 @@ fn read_by_both(bit_cells: &[u8], before: Track, note: &str) -> (Answer, Track) 
     let same = reference::from_cells(bit_cells, &mut theirs.0, &mut theirs.1);
     assert_eq!(done, expected(same), "{note}");
     same_buffers(&ours, &theirs, note);
-    if !done.is_done() {
-        same_buffers(&ours, &before, note);
+    match done.is_done() {
+        true => drop(alike::accept(&ours.0, &ours.1)),
+        false => same_buffers(&ours, &before, note),
     }
     (done, ours)
 }
@@ -47,6 +48,7 @@ fn send_by_both((track, marks): Lent, before: Vec<u8>, note: &str) -> (Answer, V
     let (mut ours, mut theirs) = (before.clone(), before.clone());
     let done = station::to_cells(track, marks, &mut ours);
     let same = reference::to_cells(track, marks, &mut theirs);
+    let _ = alike::accept(track, marks);
     assert_eq!(done, expected(same), "{note}");
     same_cells(&ours, &theirs, note);
     if !done.is_done() {
@@ -130,7 +132,7 @@ fn written_tracks_survive() {
         for step in 1..=3 {
             let w = wanted_add(seed ^ step << 40, &track.0, &track.1);
             let mut new = noise(step, track.0.len(), track.1.len());
-            let done = station::add(lent(&track), &mut new.0, &mut new.1, &new_sector(&w));
+            let done = alike::add(lent(&track), &mut new.0, &mut new.1, &new_sector(&w));
             if done.is_done() {
                 through_the_drive(&new, seed, w.s, &w.key, &w.data, &note);
                 tally.count(Answer::DONE);
@@ -139,7 +141,7 @@ fn written_tracks_survive() {
         }
         let w = wanted_correct(seed, &track.0, &track.1);
         let mut new = noise(4, track.0.len(), track.1.len());
-        let done = station::correct(lent(&track), &mut new.0, &mut new.1, &new_body(&w));
+        let done = alike::correct(lent(&track), &mut new.0, &mut new.1, &new_body(&w));
         if done.is_done() {
             through_the_drive(&new, seed, w.s, &w.key, &w.data, &note);
             tally.count(Answer::DONE);

@@ -5,7 +5,7 @@
 mod common;
 
 use common::bursts::*;
-use common::{answer, lent, noise, Tally, Track};
+use common::{alike, answer, lent, noise, Tally, Track};
 use reference::check::check;
 use reference::generate::{sound, Rng};
 use station::{Address, Answer, Lent, NewSector, NewTrack};
@@ -49,7 +49,7 @@ fn written(seed: u64, flag: u8, [first, second]: [(usize, usize); 2]) -> Track {
         data: &rng.bytes(second.1),
         ..NewSector::default()
     };
-    let done = station::add(lent(&old), &mut new.0, &mut new.1, &wanted);
+    let done = alike::add(lent(&old), &mut new.0, &mut new.1, &wanted);
     assert_eq!(done, Answer::DONE);
     new
 }
@@ -150,7 +150,7 @@ fn every_burst_on(kind: Kind, length: usize, wanted: usize) {
     assert_eq!(field.length, length);
     let refusal = field.refusal();
     let tried = each_alone(&track, changes(field, &patterns), |altered, change| {
-        let judged = station::accept(altered.0, altered.1);
+        let judged = alike::accept(altered.0, altered.1);
         assert_eq!(judged, refusal, "{change:?}");
     });
     let tried = Tried::from([(kind, tried)]);
@@ -253,7 +253,7 @@ fn home_passes(altered: Lent, change: Change, parts: [&[u8]; 2]) {
 /// Demands that a count passes its check: Walk reads it, Find knows it by the number that it now carries, and Accept refuses it for something else.
 fn count_passes(altered: Lent, change: Change) {
     let Field { s, opening, .. } = change.field;
-    let ours = station::walk_from(altered.0, altered.1, opening).expect("a count");
+    let ours = alike::walk_from(altered.0, altered.1, opening).expect("a count");
     let theirs = reference::walk_from(altered.0, altered.1, opening).expect("a count");
     assert_eq!(ours.place, opening, "{change:?}");
     assert_eq!(

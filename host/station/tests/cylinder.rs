@@ -2,7 +2,7 @@
 
 mod common;
 
-use common::{answer, expected, new_sector, new_track, noise, reads_back, Tally, Track};
+use common::{alike, answer, expected, new_sector, new_track, noise, reads_back, Tally, Track};
 use reference::generate::{
     cylinder_file, cylinder_of, noisy_cylinder, noisy_file, spare_bits, sum_of, tracks_of,
     wanted_add, wanted_blank, wanted_read_cylinder, wanted_write_cylinder, Cylinder, WantedAdd,
@@ -88,7 +88,18 @@ fn read_by_both(file: &[u8], before: &Cylinder, note: &str) -> Result<Cylinder, 
     ours.tracks.truncate(sum);
     ours.marks.truncate(sum);
     ours.lengths.truncate(count);
+    judge_each(&ours);
     done.map(|_| ours)
+}
+
+/// Has each track of a cylinder judged.
+fn judge_each(cylinder: &Cylinder) {
+    let mut start = 0;
+    for length in cylinder.lengths.iter().map(|&length| usize::from(length)) {
+        let place = start..start + length;
+        let _ = alike::accept(&cylinder.tracks[place.clone()], &cylinder.marks[place]);
+        start += length;
+    }
 }
 
 /// Write cylinder by both, into buffers of equal noise, which stays behind the file, and whole where it is refused; gives the file.
@@ -189,7 +200,7 @@ fn blanked(w: WantedBlank) -> Option<Written> {
 /// What Add writes, if it does what is wanted.
 fn added(old: &Track, w: WantedAdd) -> Option<Written> {
     let mut new = noise(w.s.into(), old.0.len(), old.1.len());
-    let done = station::add((&old.0, &old.1), &mut new.0, &mut new.1, &new_sector(&w));
+    let done = alike::add((&old.0, &old.1), &mut new.0, &mut new.1, &new_sector(&w));
     done.is_done().then_some((new, (w.s, w.key, w.data)))
 }
 

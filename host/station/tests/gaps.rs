@@ -4,7 +4,7 @@ mod common;
 
 use common::by_both::*;
 use common::sectors::*;
-use common::{answer, lent, noise, reads_back, same_buffers, Tally, Track};
+use common::{alike, answer, lent, noise, reads_back, same_buffers, Tally, Track};
 use reference::generate::{
     any_rule, rule_two, sound, wanted_add_by, wanted_correct_by, Built, Plan, PlannedSector, Rng,
     WantedCorrect,
@@ -137,7 +137,7 @@ fn two_rules_on_the_worked_track() {
         let orders = both_orders(&old, &x, &y, &note).expect("each is possible alone");
         for ((done, new), place) in [(&orders.a_then_b, xy_place), (&orders.b_then_a, yx_place)] {
             assert_eq!(*done, Answer::DONE, "{note}");
-            let third = station::candidates(&new.0, &new.1).nth(2);
+            let third = alike::candidates(&new.0, &new.1).nth(2);
             assert_eq!(
                 third.map(|next| next.map(|next| next.place)),
                 Some(Ok(place))
@@ -337,7 +337,7 @@ fn gaps_that_are_kept() {
         if done.is_done() {
             let index = before.iter().position(|sector| sector.1 == w.s);
             let index = index.expect("Correct found it");
-            let steps = station::candidates(&old.0, &old.1);
+            let steps = alike::candidates(&old.0, &old.1);
             let place = steps.flatten().nth(index).expect("a count").place;
             assert_eq!(new.0[..place], old.0[..place], "{note}");
             assert_eq!(new.1[..place], old.1[..place], "{note}");

@@ -4,7 +4,7 @@ mod common;
 
 use common::sectors::rule_gap;
 use common::{
-    answer, any_track, expected, lent, new_body, new_sector, new_track, noise, Tally, Track,
+    alike, answer, any_track, expected, lent, new_body, new_sector, new_track, noise, Tally, Track,
 };
 use reference::generate::{
     sound, wanted_add, wanted_blank, wanted_correct, Built, Plan, PlannedSector, Rng, WantedAdd,
@@ -46,7 +46,8 @@ fn same_rows(ours: &[Row], theirs: &[Row], note: &str) {
     }
 }
 
-/// List by both, into so many rows of noise, of which those past the last sector stay, and all where it refuses; gives the sectors' rows.
+/// List by both, into so many rows of noise, of which those past the last sector stay, and all where it refuses; where there are enough rows it answers as Accept.
+/// Gives the sectors' rows.
 fn list_by_both((track, marks): Lent, count: usize, note: &str) -> Result<Vec<Row>, Answer> {
     let before = noisy_rows(track.len() as u64, count);
     let (mut ours, mut theirs) = (before.clone(), before);
@@ -61,6 +62,9 @@ fn list_by_both((track, marks): Lent, count: usize, note: &str) -> Result<Vec<Ro
         *row = record.row();
     }
     same_rows(&ours, &theirs, note);
+    if count >= MOST_SECTORS {
+        assert_eq!(alike::accept(track, marks), expected(same), "{note}");
+    }
     done.map(|number| ours[..number].to_vec())
 }
 
@@ -116,14 +120,14 @@ fn blanked(w: &WantedBlank) -> Option<Track> {
 /// What Add writes, if it does what is wanted.
 fn added(old: &Track, w: &WantedAdd) -> Option<Track> {
     let mut new = noise(w.s.into(), old.0.len(), old.1.len());
-    let done = station::add(lent(old), &mut new.0, &mut new.1, &new_sector(w));
+    let done = alike::add(lent(old), &mut new.0, &mut new.1, &new_sector(w));
     done.is_done().then_some(new)
 }
 
 /// What Correct writes, if it does what is wanted.
 fn corrected(old: &Track, w: &WantedCorrect) -> Option<Track> {
     let mut new = noise(w.s.into(), old.0.len(), old.1.len());
-    let done = station::correct(lent(old), &mut new.0, &mut new.1, &new_body(w));
+    let done = alike::correct(lent(old), &mut new.0, &mut new.1, &new_body(w));
     done.is_done().then_some(new)
 }
 
@@ -247,7 +251,7 @@ fn list_as_the_reference() {
         let count = some_count(&mut Rng::new(seed ^ 0x0207_5A11));
         let listed = list_by_both(lent(&track), count, &note);
         if count < MOST_SECTORS {
-            let is_done = station::accept(&track.0, &track.1).is_done();
+            let is_done = alike::accept(&track.0, &track.1).is_done();
             accepted[usize::from(is_done)] += 1;
             short.count(answer_of(&listed));
             continue;
@@ -278,7 +282,7 @@ fn too_few_rows_come_first() {
             let listed = list_by_both(lent(&track), count, &note);
             assert_eq!(listed, Err(answer(1, 0)), "{count} rows, {note}");
         }
-        let judged = station::accept(&track.0, &track.1);
+        let judged = alike::accept(&track.0, &track.1);
         let listed = list_whole(&track, &note);
         assert_eq!(answer_of(&listed), judged, "{note}");
         tally.count(judged);

@@ -2,7 +2,7 @@
 
 mod common;
 
-use common::{answer, expected, told, Tally};
+use common::{alike, answer, expected, told, Tally};
 use reference::generate::{damaged, pair, sound, sound_plan, spoiled, Rng, Sound};
 use reference::{find, pair_find, Part};
 use station::Answer;
@@ -111,6 +111,7 @@ fn walked(input: &[u8]) -> Told {
         return (vec![answer(1, 0)], "ended 1\n".to_string());
     }
     let (track, marks) = input.split_at(input.len() / 2);
+    let _ = alike::candidates(track, marks);
     let mut walk = reference::Walk::new(track, marks);
     let mut lines = String::new();
     loop {
@@ -147,7 +148,7 @@ fn dumped_part(track: &[u8], marks: &[u8], s: u8, part: Part) -> (Answer, String
 /// What trackdump prints by the reference: S, key and data of each S that some candidate carries; it tells an answer for each part.
 fn dumped(input: &[u8]) -> Told {
     let (track, marks) = input.split_at(input.len() / 2);
-    if reference::accept(track, marks).number == 1 {
+    if judged(input).number == 1 {
         return (vec![answer(1, 0)], "refused 1\n".to_string());
     }
     let (mut answers, mut lines) = (vec![], String::new());
@@ -182,8 +183,7 @@ fn compare(name: &'static str, runs: u64, numbers: &[u8], expected: fn(&[u8]) ->
 fn listed(input: &[u8]) -> Told {
     let text = reference::tracklist(input);
     let text = String::from_utf8_lossy(&text).to_string();
-    let (track, marks) = input.split_at(input.len() / 2);
-    let done = expected(reference::accept(track, marks));
+    let done = judged(input);
     if !done.is_done() {
         assert_eq!(text, format!("refused {}\n", done.number));
     }
@@ -221,6 +221,7 @@ fn two_inputs(seed: u64, rng: &mut Rng) -> [Vec<u8>; 2] {
 fn some_number(rng: &mut Rng, inputs: &[Vec<u8>; 2]) -> u8 {
     let mut numbers = vec![rng.byte()];
     for input in inputs {
+        let _ = judged(input);
         let (track, marks) = input.split_at(input.len() / 2);
         let mut walk = reference::Walk::new(track, marks);
         while let Ok(candidate) = walk.step() {
@@ -398,10 +399,12 @@ fn accept_line(done: Answer) -> String {
     format!("accept: {} at {}{fault}\n", done.number, done.place)
 }
 
-/// Accept's answer for an input, by the reference.
+/// Accept's answer for an input, by all.
 fn judged(input: &[u8]) -> Answer {
     let (track, marks) = input.split_at(input.len() / 2);
-    expected(reference::accept(track, marks))
+    let done = expected(reference::accept(track, marks));
+    assert_eq!(alike::accept(track, marks), done);
+    done
 }
 
 /// The reader prints the layout of an accepted track as it was planned, its pieces from index to index, and none of a refused one.

@@ -2,7 +2,7 @@
 
 mod common;
 
-use common::{answer, any_track, expected, lent, Tally, Track};
+use common::{alike, answer, any_track, expected, lent, Tally, Track};
 use reference::generate::{damaged, pair, Block, Built, Places, Plan, PlannedSector, Rng, Spoiled};
 use reference::{Address, Part};
 use station::{Answer, Fault, Lent, Wanted, Which};
@@ -64,7 +64,7 @@ fn accept_as_the_reference() {
     for seed in tally.seeds() {
         let (track, marks) = any_track(seed);
         let theirs = reference::accept(&track, &marks);
-        let ours = station::accept(&track, &marks);
+        let ours = alike::accept(&track, &marks);
         assert_eq!(ours, expected(theirs), "seed {seed}");
         tally.count(ours);
     }
@@ -82,7 +82,7 @@ fn find_as_the_reference() {
             let s = some_number(&mut rng, (track, marks));
             let (wanted, part) = wish(&mut rng);
             let theirs = reference::find(track, marks, s, part);
-            let ours = station::find(track, marks, s, wanted);
+            let ours = alike::find(track, marks, s, wanted);
             tally.count(expected(theirs.0));
             compare_part(
                 track,
@@ -133,6 +133,7 @@ fn pair_find_as_the_reference() {
             false => some_number(&mut rng, second),
         };
         let (wanted, part) = wish(&mut rng);
+        let _ = [first, second].map(|(track, marks)| alike::accept(track, marks));
         let (done, named, range) = reference::pair_find(first, second, s, part);
         let (which, ours) = station::pair_find(first, second, s, wanted);
         let note = format!("seed {seed}, {wanted:?} of {s}");
@@ -151,7 +152,7 @@ fn pair_find_as_the_reference() {
 /// Demands the same step from a place on, and gives the place to go on from.
 fn compare_step((track, marks): Lent, from: usize, tally: &mut Tally, seed: u64) -> Option<usize> {
     let theirs = reference::walk_from(track, marks, from);
-    let ours = station::walk_from(track, marks, from);
+    let ours = alike::walk_from(track, marks, from);
     tally.count(theirs.map_or_else(expected, |_| Answer::DONE));
     match (ours, theirs) {
         (Ok(a), Ok(b)) => assert_eq!(
@@ -167,7 +168,7 @@ fn compare_step((track, marks): Lent, from: usize, tally: &mut Tally, seed: u64)
 
 /// Demands that the iterator gives each candidate once, from left to right, or one refusal.
 fn compare_iterator((track, marks): Lent, seed: u64) {
-    let ours: Vec<_> = station::candidates(track, marks).take(MANY).collect();
+    let ours: Vec<_> = alike::candidates(track, marks).take(MANY).collect();
     if reference::walk_from(track, marks, 0) == Err(reference::Answer::new(1, 0)) {
         assert_eq!(ours, [Err(answer(1, 0))], "seed {seed}");
         return;
@@ -245,7 +246,7 @@ fn plan(length: usize, home: usize, sectors: Vec<PlannedSector>) -> Plan {
 /// Both implementations' answer for a plan, which must be one.
 fn judged(plan: &Plan) -> Answer {
     let built = plan.build(&mut |length| vec![0x55; length]);
-    let ours = station::accept(&built.track, &built.marks);
+    let ours = alike::accept(&built.track, &built.marks);
     let theirs = reference::accept(&built.track, &built.marks);
     assert_eq!(ours, expected(theirs));
     ours
@@ -318,7 +319,7 @@ fn lent_of(built: &Built) -> Lent<'_> {
 
 /// Demands that Accept of both gives this answer.
 fn accepted_as((track, marks): Lent, wanted: Answer, note: &str) {
-    assert_eq!(station::accept(track, marks), wanted, "{note}");
+    assert_eq!(alike::accept(track, marks), wanted, "{note}");
     let theirs = reference::accept(track, marks);
     assert_eq!(expected(theirs), wanted, "reference, {note}");
 }
@@ -331,7 +332,7 @@ fn found_as((track, marks): Lent, s: u8, block: &Block, wanted: Answer, note: &s
     };
     let theirs = reference::find(track, marks, s, part);
     assert_eq!(expected(theirs.0), wanted, "reference, {note}");
-    let ours = station::find(track, marks, s, wish);
+    let ours = alike::find(track, marks, s, wish);
     compare_part(track, ours, theirs, note);
 }
 

@@ -4,7 +4,7 @@ mod common;
 
 use common::by_both::*;
 use common::sectors::*;
-use common::{answer, lent, new_body, new_sector, noise, same_buffers, Tally, Track};
+use common::{alike, answer, lent, new_body, new_sector, noise, same_buffers, Tally, Track};
 use reference::generate::{
     damaged, rule_two_out_of_range, sound, spoiled, wanted_add, wanted_add_by, wanted_correct,
     wanted_correct_by, Rng, WantedAdd, WantedCorrect,
@@ -127,7 +127,7 @@ fn where_refused(old: &Track, buffers: &Track) -> Answer {
     if buffers.0.len() != old.0.len() || buffers.1.len() != old.0.len() {
         return answer(1, 0);
     }
-    match station::accept(&old.0, &old.1) {
+    match alike::accept(&old.0, &old.1) {
         Answer::DONE => answer(14, 0),
         refused => refused,
     }
@@ -344,11 +344,11 @@ fn rules_of_the_wrapper() {
             GapRule::Two { a, b } => [2, a, b],
         };
         let (w, mut new) = (wanted_add(seed, &old.0, &old.1), before.clone());
-        let done = station::add(lent(&old), &mut new.0, &mut new.1, &new_sector(&w));
+        let done = alike::add(lent(&old), &mut new.0, &mut new.1, &new_sector(&w));
         let raw = raw_add(lent(&old), before.clone(), &w, numbers(w.rule));
         gave(raw, (done, &new), &note);
         let (w, mut new) = (wanted_correct(seed, &old.0, &old.1), before.clone());
-        let done = station::correct(lent(&old), &mut new.0, &mut new.1, &new_body(&w));
+        let done = alike::correct(lent(&old), &mut new.0, &mut new.1, &new_body(&w));
         let raw = raw_correct(lent(&old), before, &w, numbers(w.rule));
         gave(raw, (done, &new), &note);
     }

@@ -4,7 +4,7 @@ mod common;
 
 use common::by_both::*;
 use common::sectors::*;
-use common::{answer, lent, noise, reads_back, same_buffers, Tally, Track};
+use common::{alike, answer, lent, noise, reads_back, same_buffers, Tally, Track};
 use reference::generate::{
     rule_two, sound, spoiled, wanted_add, wanted_blank, wanted_correct, wanted_correct_by, Built,
     Plan, PlannedSector, Rng, WantedBlank, WantedCorrect,
@@ -102,7 +102,7 @@ fn faults_are_handed_on() {
     for seed in tally.seeds() {
         let note = format!("seed {seed}");
         let old = spoiled(seed);
-        let refused = station::accept(&old.0, &old.1);
+        let refused = alike::accept(&old.0, &old.1);
         let before = noise(seed, old.0.len(), old.1.len());
         let (w, body) = (
             wanted_add(seed, &old.0, &old.1),
@@ -125,7 +125,7 @@ fn fit_together((track, marks): Lent, a: &WantedCorrect, b: &WantedCorrect) -> b
         Some(w) => (w.key.len(), w.data.len()),
         None => (usize::from(sector.kl), usize::from(sector.dl)),
     };
-    let steps = station::candidates(track, marks).take(MANY);
+    let steps = alike::candidates(track, marks).take(MANY);
     let all: Vec<_> = steps.flatten().collect();
     let corrected = |sector: &Candidate| sector.s == a.s || sector.s == b.s;
     let left = all.iter().position(corrected).expect("both are present");

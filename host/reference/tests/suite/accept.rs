@@ -1,8 +1,8 @@
 //! Accept, answer by answer.
 
+use crate::alike::*;
 use crate::common::*;
 use reference::generate::{recheck, Built, Plan};
-use reference::*;
 
 /// Accept after one change to the three-sector track.
 fn after(change: impl FnOnce(&mut Built)) -> Answer {

@@ -1,8 +1,8 @@
 //! From cells and To cells.
 
+use crate::alike::*;
 use crate::common::*;
 use reference::generate::*;
-use reference::*;
 use std::collections::BTreeSet;
 
 const L: usize = 3_906;

@@ -1,7 +1,8 @@
 //! Hand-made tracks for the tests.
 
+use crate::alike::accept;
 use reference::generate::{Built, Plan, PlannedSector};
-use reference::{accept, Address, Answer};
+use reference::{Address, Answer};
 
 pub const HERE: Address = Address {
     cylinder: 100,

@@ -1,8 +1,8 @@
 //! Read cylinder and Write cylinder.
 
+use crate::alike::*;
 use crate::common::*;
 use reference::generate::*;
-use reference::*;
 use std::collections::{BTreeMap, BTreeSet};
 
 /// Numbers that Read cylinder can give.

@@ -1,9 +1,9 @@
 //! The data block of DL = 0: seven bytes, or ten where check and end byte follow.
 
+use crate::alike::*;
 use crate::common::*;
 use reference::generate::{Built, Places, Plan, PlannedSector};
 use reference::layout::{first_count, later_count};
-use reference::*;
 
 /// Check and end byte of an empty block.
 const TRAILER: [u8; 3] = [0xFF, 0xFF, 0xCC];

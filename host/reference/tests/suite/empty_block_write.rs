@@ -1,9 +1,9 @@
 //! Blank, Add and Correct around data blocks of DL = 0 that have seven or ten bytes.
 
+use crate::alike::*;
 use crate::common::*;
 use crate::write::{add_to, correct_in, first_written, L};
 use reference::generate::{Built, Places, Plan, PlannedSector};
-use reference::*;
 
 /// Check and end byte of an empty block.
 const TRAILER: [u8; 3] = [0xFF, 0xFF, 0xCC];

@@ -1,9 +1,9 @@
 //! End and gap of List's records: at their edges, and in the sum of a track's pieces.
 
+use crate::alike::*;
 use crate::common::*;
 use crate::write::{add_to, correct_in, L};
 use reference::generate::*;
-use reference::*;
 use std::collections::BTreeMap;
 
 /// Check and end byte of an empty block.

@@ -1,8 +1,8 @@
 //! Find, answer by answer.
 
+use crate::alike::*;
 use crate::common::*;
 use reference::generate::{recheck, Built};
-use reference::*;
 use std::ops::Range;
 
 fn find_in(built: &Built, s: u8, part: Part) -> (Answer, Range<usize>) {

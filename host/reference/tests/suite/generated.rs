@@ -1,9 +1,9 @@
 //! Generated tracks: sound, damaged, and with wanted fields.
 
+use crate::alike::*;
 use crate::common::*;
 use reference::check::check_by_division;
 use reference::generate::*;
-use reference::*;
 use std::collections::BTreeSet;
 
 fn listed(track: &[u8], marks: &[u8]) -> Vec<Sector> {

@@ -1,10 +1,10 @@
 //! Generated tracks: the data blocks of DL = 0, and how often each kind of them is met.
 
+use crate::alike::*;
 use crate::common::*;
 use crate::generated::{addition, both_orders, correction};
 use reference::generate::*;
 use reference::layout::{first_count, later_count, marked_opening_at, Count, Fields};
-use reference::*;
 use std::collections::BTreeMap;
 
 /// Check and end byte of an empty block.

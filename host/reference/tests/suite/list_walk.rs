@@ -1,7 +1,7 @@
 //! List and Walk.
 
+use crate::alike::*;
 use crate::common::*;
-use reference::*;
 
 const NOISE: Sector = Sector {
     flag: 0xEE,

@@ -1,6 +1,7 @@
 //! Tests of the reference implementation, one module for each group of calls.
 
 mod accept;
+mod alike;
 mod bit_cells;
 mod common;
 mod cylinder;

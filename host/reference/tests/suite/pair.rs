@@ -1,8 +1,8 @@
 //! Pair find.
 
+use crate::alike::*;
 use crate::common::*;
 use reference::generate::{pair, Built, Plan};
-use reference::*;
 use std::ops::Range;
 
 /// A defective track and its alternative.

@@ -1,10 +1,10 @@
 //! Gap rule two: its ranges, the gaps it sets, its place among the answers, and what the generators draw.
 
+use crate::alike::*;
 use crate::common::*;
 use crate::generated::{addition, correction};
 use crate::write::{add_by, add_to, correct_by, correct_in, first_written, with_written_gaps, L};
 use reference::generate::*;
-use reference::*;
 use std::collections::BTreeMap;
 
 /// Rule two in short.

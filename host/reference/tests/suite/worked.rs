@@ -1,8 +1,8 @@
 //! The worked numbers.
 
+use crate::alike::*;
 use crate::common::*;
 use reference::check::{check, check_by_division};
-use reference::*;
 
 const L: usize = 3_906;
 

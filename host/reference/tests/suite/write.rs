@@ -1,8 +1,8 @@
 //! Blank, Add and Correct.
 
+use crate::alike::*;
 use crate::common::*;
 use reference::generate::{Built, Plan};
-use reference::*;
 
 pub const L: usize = 3_906;
 

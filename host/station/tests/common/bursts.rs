@@ -1,7 +1,7 @@
 //! Information with its check on a track, patterns of bits to alter in it, and what Accept and Find give of the altered track.
 
 use super::sectors::sectors_of;
-use super::{expected, lent, Track};
+use super::{alike, expected, lent, Track};
 use reference::generate::Rng;
 use reference::Part;
 use station::{Answer, Fault, Lent, Wanted};
@@ -57,7 +57,7 @@ pub const HOME_TO_COUNT: usize = 25;
 /// The fields of an accepted track: home, and of each sector its count, its key if it has one and its data block unless that is empty.
 pub fn fields_of(track: &Track) -> Vec<Field> {
     let sectors = sectors_of(track, "a track to be altered");
-    let counts = station::candidates(&track.0, &track.1).flatten();
+    let counts = alike::candidates(&track.0, &track.1).flatten();
     let mut fields = Vec::new();
     for (index, (count, sector)) in counts.zip(&sectors).enumerate() {
         let (home, opening) = match index {
@@ -141,7 +141,7 @@ pub fn patterns(up_to: usize, random: usize) -> Vec<u32> {
 
 /// Accept's answer, which is that of the reference.
 pub fn accepted((track, marks): Lent, change: Change) -> Answer {
-    let ours = station::accept(track, marks);
+    let ours = alike::accept(track, marks);
     let theirs = reference::accept(track, marks);
     assert_eq!(ours, expected(theirs), "{change:?}");
     ours
@@ -158,7 +158,7 @@ pub fn found<'t>(
         Wanted::Key => Part::Key,
         Wanted::Data => Part::Data,
     };
-    let ours = station::find(track, marks, s, wanted);
+    let ours = alike::find(track, marks, s, wanted);
     let theirs = match reference::find(track, marks, s, part) {
         (reference::Answer::OK, range) => Ok(&track[range]),
         (refused, _) => Err(expected(refused)),
@@ -175,7 +175,7 @@ pub fn both_found<'t>(lent: Lent<'t>, s: u8, change: Change) -> [Result<&'t [u8]
 /// Key and data of a sector of an accepted track.
 pub fn parts_of(track: &Track, s: u8) -> [&[u8]; 2] {
     [Wanted::Key, Wanted::Data].map(|wanted| {
-        let found = station::find(&track.0, &track.1, s, wanted);
+        let found = alike::find(&track.0, &track.1, s, wanted);
         found.expect("a sound sector")
     })
 }
@@ -186,7 +186,7 @@ pub fn each_alone(
     changes: impl Iterator<Item = Change>,
     mut judge: impl FnMut(Lent, Change),
 ) -> usize {
-    assert_eq!(station::accept(&track.0, &track.1), Answer::DONE);
+    assert_eq!(alike::accept(&track.0, &track.1), Answer::DONE);
     assert_eq!(reference::accept(&track.0, &track.1), reference::Answer::OK);
     let (mut altered, mut tried) = (track.clone(), 0);
     for change in changes {

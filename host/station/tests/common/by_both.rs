@@ -1,6 +1,6 @@
 //! The writing calls by the proved library and by the reference, into equal noise.
 
-use super::{expected, lent, new_body, new_sector, new_track, noise, same_buffers, Track};
+use super::{alike, expected, lent, new_body, new_sector, new_track, noise, same_buffers, Track};
 use reference::generate::{damaged, sound, WantedAdd, WantedBlank, WantedCorrect};
 use station::{Answer, Lent};
 
@@ -50,7 +50,7 @@ pub fn blank_by_both(buffers: Track, w: &WantedBlank, note: &str) -> (Answer, Tr
 /// Add by both, into buffers of equal noise.
 pub fn add_by_both(old: Lent, buffers: Track, w: &WantedAdd, note: &str) -> (Answer, Track) {
     let (mut ours, mut theirs) = (buffers.clone(), buffers);
-    let done = station::add(old, &mut ours.0, &mut ours.1, &new_sector(w));
+    let done = alike::add(old, &mut ours.0, &mut ours.1, &new_sector(w));
     let same = reference::add(
         old.0,
         old.1,
@@ -75,7 +75,7 @@ pub fn correct_by_both(
     note: &str,
 ) -> (Answer, Track) {
     let (mut ours, mut theirs) = (buffers.clone(), buffers);
-    let done = station::correct(old, &mut ours.0, &mut ours.1, &new_body(w));
+    let done = alike::correct(old, &mut ours.0, &mut ours.1, &new_body(w));
     let same = reference::correct(
         old.0,
         old.1,

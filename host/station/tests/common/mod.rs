@@ -1,6 +1,7 @@
 //! Seeds, tallies, buffers and wanted fields of the comparisons; each test file uses a part.
 #![allow(dead_code)]
 
+pub mod alike;
 pub mod bursts;
 pub mod by_both;
 pub mod sectors;
@@ -171,8 +172,8 @@ pub fn same_buffers(ours: &Track, theirs: &Track, note: &str) {
 
 /// Demands that a written track is accepted and gives back what one sector got.
 pub fn reads_back((track, marks): Lent, s: u8, key: &[u8], data: &[u8], note: &str) {
-    assert_eq!(station::accept(track, marks), Answer::DONE, "{note}");
-    let found = |wanted| station::find(track, marks, s, wanted);
+    assert_eq!(alike::accept(track, marks), Answer::DONE, "{note}");
+    let found = |wanted| alike::find(track, marks, s, wanted);
     assert_eq!(found(Wanted::Key), Ok(key), "{note}");
     assert_eq!(found(Wanted::Data), Ok(data), "{note}");
 }

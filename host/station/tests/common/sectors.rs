@@ -1,6 +1,6 @@
 //! What stands on a track, what is asked for by hand, and the lengths that the layout and the gap rules give.
 
-use super::{lent, new_sector, noise, Track};
+use super::{alike, lent, new_sector, noise, Track};
 use reference::generate::{WantedAdd, WantedCorrect};
 use reference::GapRule;
 use station::{Address, Answer, Candidate, Lent, NewTrack, Sector, Wanted};
@@ -15,11 +15,11 @@ pub type Contents = (u8, u8, Vec<u8>, Vec<u8>);
 pub fn contents((track, marks): Lent) -> Vec<Contents> {
     let contents_of = |step: Result<Candidate, Answer>| {
         let Candidate { flag, s, .. } = step.expect("a written track can be walked");
-        let found = |wanted| station::find(track, marks, s, wanted).expect("a sound sector");
+        let found = |wanted| alike::find(track, marks, s, wanted).expect("a sound sector");
         let (key, data) = (found(Wanted::Key), found(Wanted::Data));
         (flag, s, key.to_vec(), data.to_vec())
     };
-    let steps = station::candidates(track, marks).take(MANY);
+    let steps = alike::candidates(track, marks).take(MANY);
     steps.map(contents_of).collect()
 }
 
@@ -92,7 +92,7 @@ pub fn wanted_body(s: u8, kl: usize, dl: usize) -> WantedCorrect {
 /// One more sector by the wrapper.
 fn with_added(old: &Track, w: &WantedAdd) -> Track {
     let mut new = noise(5, old.0.len(), old.1.len());
-    let done = station::add(lent(old), &mut new.0, &mut new.1, &new_sector(w));
+    let done = alike::add(lent(old), &mut new.0, &mut new.1, &new_sector(w));
     assert_eq!(done, Answer::DONE);
     new
 }
