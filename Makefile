@@ -1,10 +1,11 @@
 # make: prove and build all · make list: the main job on a sample · make test: all tests · make try: the C programs
-# make soak: the comparison on as many tracks as one likes · make bench: times beside the reference
+# make soak: the comparison on as many tracks as one likes · make bench: times beside the reference and the fast implementation
+# make packs: the packs that the times are measured on
 # make times: the seconds of each crate's check · make fmt: the layout of every file
 SHELL := /bin/bash
 .SHELLFLAGS := -eo pipefail -c
 MAKEFLAGS += --no-print-directory
-.PHONY: all list test prove host-test lib examples try soak bench times sample fmt clean
+.PHONY: all list test prove host-test lib examples try soak packs bench times sample fmt clean
 
 LIB := target/staticlib/libstation.a
 EXAMPLES := target/examples/station target/examples/reader target/examples/cells target/examples/cylinder
@@ -12,6 +13,7 @@ CARGO := cargo --offline
 CFLAGS ?= -O2
 SOAK ?= 200000
 SEED ?= 1000000
+PACK_SEED ?= 1
 
 all:
 	rt check
@@ -68,9 +70,13 @@ try: examples
 soak: lib
 	cd host && ISO3561_SOAK=$(SOAK) ISO3561_SEED=$(SEED) $(CARGO) test -p station -p crc --test reading --test listing --test writing --test rules --test gaps --test bursts --test bit_cells --test cylinder --test check
 
-# Times beside the reference.
-bench: lib
-	cd host && $(CARGO) run --release --quiet -p bench
+# Three packs of 2,030 tracks in files, sound, damaged and of cards, from a seed: make packs PACK_SEED=7
+packs: lib
+	cd host && $(CARGO) run --release --quiet -p bench --bin packs -- ../build/packs $(PACK_SEED)
+
+# Times beside the reference, and over the packs beside the fast implementation.
+bench: packs
+	cd host && $(CARGO) run --release --quiet -p bench -- ../build/packs
 
 # The seconds of each crate's check, from nothing and one crate at a time, and of the whole.
 times:

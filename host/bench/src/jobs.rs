@@ -1,13 +1,12 @@
 //! The tracks of a pack, with what is asked of each and the buffers it is written to.
 
+use bench::packs::PACK;
+use bench::Track;
 use reference::generate::{
     bit_cells_of, wanted_add_by, wanted_correct_by, Rng, WantedAdd, WantedCorrect,
 };
 use reference::GapRule;
 use station::MOST_SECTORS;
-
-/// Cylinders times heads of a pack.
-pub const PACK: u64 = 203 * 10;
 
 /// One track of the pack, its bit cells, what is asked of it, and buffers to write to.
 pub struct Job {
@@ -30,12 +29,11 @@ pub struct Buffers {
 }
 
 /// Makes a track from a seed.
-pub type Generator = fn(u64) -> (Vec<u8>, Vec<u8>);
+pub type Generator = fn(u64) -> Track;
 
-/// A full pack of tracks from one generator.
-pub fn pack(generator: Generator) -> Vec<Job> {
-    let job = |seed| {
-        let (track, marks) = generator(seed);
+impl Job {
+    /// A track, with what a seed asks of it.
+    pub fn of(seed: u64, (track, marks): Track) -> Job {
         Job {
             bit_cells: bit_cells_of(&track, &marks),
             s: some_number(&track, &marks, seed),
@@ -45,8 +43,14 @@ pub fn pack(generator: Generator) -> Vec<Job> {
             track,
             marks,
         }
-    };
-    (0..PACK).map(job).collect()
+    }
+}
+
+/// A full pack of tracks from one generator.
+pub fn pack(generator: Generator) -> Vec<Job> {
+    (0..PACK)
+        .map(|seed| Job::of(seed, generator(seed)))
+        .collect()
 }
 
 impl Buffers {

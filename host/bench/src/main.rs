@@ -1,16 +1,23 @@
-//! Times of Accept, List, Find, Add, Correct, From cells, To cells, Read cylinder and Write cylinder over a full pack, and of the check alone, beside those of the reference.
+//! Times of Accept, List, Find, Add, Correct, From cells, To cells, Read cylinder and Write cylinder over a full pack, and of the check alone, beside those of the reference;
+//! times of Accept, Find, Walk, Correct and Add over the packs in files beside those of the fast implementation.
 //!
 //! Both get the same tracks in the same buffers, as they come and uncleared, and take turns within one run.
 
 mod calls;
 mod checks;
 mod cylinders;
+mod fast_calls;
+mod growth;
 mod jobs;
+mod pace;
+mod walks;
 
+use bench::packs::PACK;
 use calls::*;
-use jobs::{pack, spoil_cells, Generator, Job, PACK};
+use jobs::{pack, spoil_cells, Generator, Job};
 use reference::generate::{damaged, sound};
 use std::hint::black_box;
+use std::path::PathBuf;
 use std::time::{Duration, Instant};
 
 /// Turns of each; the fastest one counts.
@@ -82,7 +89,8 @@ fn measure_all(kind: &str, jobs: &mut [Job], rows: &[Row]) {
     }
 }
 
-fn main() {
+/// The calls over a pack of each kind, beside the reference.
+fn measure_beside_reference() {
     println!(
         "{PACK} tracks, best of {TURNS} turns; pack in ms, track in us, ratio proved to reference"
     );
@@ -98,6 +106,14 @@ fn main() {
     measure_all("sound", &mut jobs, &CELL_CALLS);
     spoil_cells(&mut jobs);
     measure_all("damaged", &mut jobs, &CELL_CALLS);
+}
+
+fn main() {
+    let folder = std::env::args().nth(1);
+    let folder = PathBuf::from(folder.unwrap_or("../build/packs".into()));
+    pace::measure_all(&folder);
+    growth::measure_all();
+    measure_beside_reference();
     cylinders::measure_all();
     checks::measure_all();
 }
