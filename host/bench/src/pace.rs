@@ -76,10 +76,10 @@ fn jobs_of(folder: &Path, kind: &str) -> Vec<Job> {
 
 /// One line for each pack and call.
 pub fn measure_all(folder: &Path) {
-    println!("the packs in files, best of at most {TURNS} turns; track in us, ratios of the times");
+    println!("drive's pace: the packs in files, best of at most {TURNS} turns; track in us, ratios of the times");
     println!(
         "{:<28} {:>9} {:>9} {:>9} {:>9} {:>9} {:>9}",
-        "", "proved", "fast", "ratio", "pass", "to pass", "fast to"
+        "", "proved", "fast", "to fast", "(pass)", "to pass", "(fast)"
     );
     let mut packs = KINDS.map(|kind| (kind, jobs_of(folder, kind)));
     for (kind, jobs) in &mut packs {

@@ -23,23 +23,26 @@ pub fn judge(track: &[u8], marks: &[u8], mut show: impl FnMut(&Sector)) -> Resul
     let home = Home::judge(track, &marks)?;
     let mut openings = Openings::of(track, &marks);
     let mut numbers = Numbers::default();
-    let mut next = openings.first(home.place + TO_COUNT_END)?;
-    let span = span_between(home.place + TO_COUNT, SHORT, next, track.len());
-    let mut judged = judge_first(track, span, &home);
-    loop {
-        let sector = match judged {
-            Ok(sector) => sector,
-            Err(refusal) => return Err(openings.stray().unwrap_or(refusal)),
-        };
+    let mut pass = |sector: Sector| {
         show(&sector);
         numbers.enter(sector.fields.s(), sector.span.place);
-        let Some(place) = next else {
-            return numbers.judge();
-        };
+        sector.fields.flag_and_address() ^ B8
+    };
+    let mut next = openings.first(home.place + TO_COUNT_END)?;
+    let span = span_between(home.place + TO_COUNT, SHORT, next, track.len());
+    let mut wanted = match judge_first(track, span, &home) {
+        Ok(sector) => pass(sector),
+        Err(refusal) => return Err(openings.stray().unwrap_or(refusal)),
+    };
+    while let Some(place) = next {
         next = openings.step()?;
         let span = span_between(place, LONG, next, track.len());
-        judged = judge_later(track, span, sector.fields.flag_and_address() ^ B8);
+        wanted = match judge_later(track, span, wanted) {
+            Ok(sector) => pass(sector),
+            Err(refusal) => return Err(openings.stray().unwrap_or(refusal)),
+        };
     }
+    numbers.judge()
 }
 
 /// B8 and B7 of a flag.

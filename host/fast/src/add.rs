@@ -27,20 +27,20 @@ pub fn add(
         return Answer::new(WANTED, 0);
     }
     if let Some(present) = sectors.index_of(s) {
-        return Answer::new(REPEATED, sectors.all()[present].place);
+        return Answer::new(REPEATED, sectors.all()[present].place());
     }
     let last = sectors.all()[sectors.all().len() - 1];
-    let gap = rule.gap(last.kl + last.dl);
+    let gap = rule.gap(last.kl() + last.dl());
     if !fits(
-        last.end + gap + sector_length(LONG, key.len(), data.len()),
+        last.end() + gap + sector_length(LONG, key.len(), data.len()),
         track.len(),
     ) {
         return Answer::new(FULL, 0);
     }
-    let mut image = Image::copied((track, marks), last.end, new_track, new_marks);
+    let mut image = Image::copied((track, marks), last.end(), new_track, new_marks);
     image.put_gap(gap);
     image.put_long_opening();
-    let mut count = first_six(track, last.information);
+    let mut count = first_six(track, last.information());
     count[0] = (count[0] ^ 0x80) & 0x83 | b7 << 6;
     count[5] = s;
     image.put_sector(count, key, data);

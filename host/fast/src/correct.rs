@@ -30,18 +30,18 @@ pub fn correct(
         return Answer::new(NOT_FOUND, 0);
     };
     let (old, later) = (sectors.all()[index], &sectors.all()[index + 1..]);
-    let opening = old.information - old.place;
-    let end = old.place + sector_length(opening, key.len(), data.len());
+    let opening = old.information() - old.place();
+    let end = old.place() + sector_length(opening, key.len(), data.len());
     let length = key.len() + data.len();
     if !fits(end_behind(end, length, later, rule), track.len()) {
         return Answer::new(FULL, 0);
     }
-    let mut image = Image::copied((track, marks), old.place, new_track, new_marks);
+    let mut image = Image::copied((track, marks), old.place(), new_track, new_marks);
     match opening {
         LONG => image.put_long_opening(),
         _ => image.put_short_opening(),
     }
-    image.put_sector(first_six(track, old.information), key, data);
+    image.put_sector(first_six(track, old.information()), key, data);
     put_later(&mut image, track, length, later, rule);
     image.finish();
     Answer::OK
@@ -51,8 +51,8 @@ pub fn correct(
 fn end_behind(end: usize, length: usize, later: &[Placed], rule: GapRule) -> usize {
     let (mut end, mut length) = (end, length);
     for old in later {
-        end += rule.gap(length) + sector_length(LONG, old.kl, old.dl);
-        length = old.kl + old.dl;
+        end += rule.gap(length) + sector_length(LONG, old.kl(), old.dl());
+        length = old.kl() + old.dl();
     }
     end
 }
@@ -63,6 +63,6 @@ fn put_later(image: &mut Image, track: &[u8], length: usize, later: &[Placed], r
     for old in later {
         image.put_gap(rule.gap(length));
         image.put_again(track, old);
-        length = old.kl + old.dl;
+        length = old.kl() + old.dl();
     }
 }

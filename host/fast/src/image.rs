@@ -114,15 +114,15 @@ impl<'a> Image<'a> {
     /// A later sector of the old track: its count and its blocks are copied, its inner gaps made anew.
     pub fn put_again(&mut self, track: &[u8], old: &Placed) {
         self.put_long_opening();
-        self.put(&track[old.information..old.information + COUNT]);
+        self.put(&track[old.information()..old.information() + COUNT]);
         self.put(&INNER_GAP);
-        let mut place = old.information + COUNT + GAP;
-        if old.kl > 0 {
-            self.put(&track[place..place + SHORT + old.kl + TRAILER]);
+        let mut place = old.information() + COUNT + GAP;
+        if old.kl() > 0 {
+            self.put(&track[place..place + SHORT + old.kl() + TRAILER]);
             self.put(&INNER_GAP);
-            place += key_length(old.kl);
+            place += key_length(old.kl());
         }
-        self.put(&track[place..place + data_length(old.dl)]);
+        self.put(&track[place..place + data_length(old.dl())]);
     }
 
     /// So many bytes `FF`.

@@ -7,34 +7,53 @@ use crate::sector::Sector;
 /// The greatest number of sectors that a track holds.
 const MOST: usize = 67;
 
-/// Where a sector stands and how long its parts are.
+/// Where a sector stands and how long its parts are, kept in as few bytes as they take.
 #[derive(Clone, Copy, Default)]
 pub struct Placed {
-    /// Where its count opens.
-    pub place: usize,
-    /// Where its count's information starts.
-    pub information: usize,
-    /// Its number.
-    pub s: u8,
-    /// The key's length.
-    pub kl: usize,
-    /// The data's length.
-    pub dl: usize,
-    /// The data block's end.
-    pub end: usize,
+    place: u16,
+    information: u16,
+    end: u16,
+    dl: u16,
+    kl: u8,
+    s: u8,
 }
 
 impl Placed {
     /// What the writing calls need of a sector.
     fn of(sector: &Sector) -> Placed {
         Placed {
-            place: sector.span.place,
-            information: sector.span.information,
+            place: sector.span.place as u16,
+            information: sector.span.information as u16,
+            end: sector.blocks.end as u16,
+            dl: sector.fields.dl as u16,
+            kl: sector.fields.kl() as u8,
             s: sector.fields.s(),
-            kl: sector.fields.kl(),
-            dl: sector.fields.dl,
-            end: sector.blocks.end,
         }
+    }
+
+    /// Where its count opens.
+    pub fn place(&self) -> usize {
+        self.place.into()
+    }
+
+    /// Where its count's information starts.
+    pub fn information(&self) -> usize {
+        self.information.into()
+    }
+
+    /// The data block's end.
+    pub fn end(&self) -> usize {
+        self.end.into()
+    }
+
+    /// The key's length.
+    pub fn kl(&self) -> usize {
+        self.kl.into()
+    }
+
+    /// The data's length.
+    pub fn dl(&self) -> usize {
+        self.dl.into()
     }
 }
 

@@ -48,8 +48,11 @@ const KEPT: [u8; 2 * STEP] = {
 pub fn sum_at(track: &[u8], place: usize, length: usize) -> u16 {
     let part = length % STEP;
     let whole = place + part;
-    let before = &track[whole - STEP..whole];
-    let mut lanes = [0, 8, 16, 24].map(|at| eight_at(before, at) & eight_at(&KEPT, part + at));
+    let (before, kept) = (&track[whole - STEP..whole], &KEPT[part..part + STEP]);
+    let mut lanes = [0; 4];
+    for (index, lane) in lanes.iter_mut().enumerate() {
+        *lane = eight_at(before, 8 * index) & eight_at(kept, 8 * index);
+    }
     for step in track[whole..place + length].chunks_exact(STEP) {
         for (index, lane) in lanes.iter_mut().enumerate() {
             *lane ^= eight_at(step, 8 * index);
