@@ -13,10 +13,10 @@ use Rattle.format.specs.Lent.{marksLegal}
 use Rattle.base.proofs.Tests.{cases, and-assoc, and-right, and-true}
 
 -- Inclusive or is at least each of the two.
-or-left : (a b : ℕ) → a ≤ bitOr a b
+pub or-left : (a b : ℕ) → a ≤ bitOr a b
 or-left a b = omega (arith, or-add-and a b, and-le-r a b)
 
-or-right : (a b : ℕ) → b ≤ bitOr a b
+pub or-right : (a b : ℕ) → b ≤ bitOr a b
 or-right a b = omega (arith, or-add-and a b, and-le-l a b)
 
 -- Below 2 is inclusive or where both are.

@@ -4,3 +4,6 @@ pub mod Home
 pub mod Run
 pub mod Jump
 pub mod Fold
+pub mod Zero
+pub mod Word
+pub mod Step

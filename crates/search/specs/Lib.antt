@@ -1,2 +1,3 @@
 -- What the searches give, in the words of the track format.
 pub mod Place
+pub mod Zero

@@ -2,11 +2,14 @@
 ghost use mathlib.Core.Path.{_≡_};
 ghost use Prim.Native.Nat.{_+_, _-_, _≤_};
 ghost use lib.ListN.{length, drop};
+ghost use lib.Dec.{eqb};
+ghost use Rattle.base.specs.Pick.{pick};
 ghost use Rattle.format.specs.Lent.{lengthRight, marksLegal, lentForWriting, lentForReading, cells};
 ghost use Rattle.format.specs.Opening.{startsWith, plainOpening, opens};
 ghost use Rattle.format.specs.Home.{findHome};
 ghost use Rattle.format.specs.Span.{unmarkedRun, runsToIndex, spanLength};
 ghost use Rattle.search.specs.Place.{judgedPlace, inWindow};
+ghost use Rattle.search.specs.Zero.{zeroRun, word, wordAt, stepZeros};
 use format::layout::HOME_FIRST;
 use format::layout::HOME_LAST;
 use format::layout::LONGEST;
@@ -148,19 +151,107 @@ pub fn find_home(track: &[u8], marks: &[u8]) -> Found
     }
 }
 
-// How many cells stand from place p on before the first marked one.
-pub fn unmarked_run(track: &[u8], marks: &[u8], p: usize) -> usize
-    ensures { λ r. ⌜ r ≡ unmarkedRun (drop p (cells (now (track .entry)) (now (marks .entry)))) ⌝ }
+// Eight bytes as one number, the first one lowest.
+fn word_of(a: u8, b: u8, c: u8, d: u8, e: u8, f: u8, g: u8, h: u8) -> u64
+    ensures { λ r. ⌜ r ≡ word a b c d e f g h ⌝ }
 {
-    let left = cells_from(track, marks, p);
-    let mut i = 0;
-    while i < left {
-        if marks[p + i] != 0 {
+    let low = a as u64 + b as u64 * 0x100 + c as u64 * 0x10000 + d as u64 * 0x1000000;
+    let high = e as u64 + f as u64 * 0x100 + g as u64 * 0x10000 + h as u64 * 0x1000000;
+    low + high * 0x100000000
+}
+
+// The eight bytes from place i on as one number.
+fn word_at(bytes: &[u8], i: usize) -> u64
+    requires { ⌜ i + 8 ≤ length (now bytes) ⌝ }
+    ensures { λ r. ⌜ r ≡ wordAt 8 (now (bytes .entry)) i ⌝ }
+{
+    word_of(
+        bytes[i],
+        bytes[i + 1],
+        bytes[i + 2],
+        bytes[i + 3],
+        bytes[i + 4],
+        bytes[i + 5],
+        bytes[i + 6],
+        bytes[i + 7],
+    )
+}
+
+// The first of two words, or the second where the first is 0.
+fn first_nonzero(a: u64, b: u64) -> u64
+    ensures { λ r. ⌜ r ≡ pick (eqb a 0) b a ⌝ }
+{
+    if a == 0 {
+        return b;
+    }
+    a
+}
+
+// How many bytes stand before the first word that is not 0: none, or the eight of a and n more where a is 0.
+fn bytes_passed(a: u64, n: usize) -> usize
+    requires { ⌜ n ≤ 16 ⌝ }
+    ensures { λ r. ⌜ r ≡ pick (eqb a 0) (8 + n) 0 ⌝ }
+    ensures { λ r. ⌜ r ≤ 8 + n ⌝ }
+{
+    if a == 0 {
+        return 8 + n;
+    }
+    0
+}
+
+// How many zeros a step of four words starts with, of which one is not 0.
+fn step_zeros(a: u64, b: u64, c: u64, d: u64) -> usize
+    ensures { λ r. ⌜ r ≡ stepZeros a b c d ⌝ }
+    ensures { λ r. ⌜ r ≤ 32 ⌝ }
+{
+    let word = first_nonzero(a, first_nonzero(b, first_nonzero(c, d)));
+    bytes_passed(a, bytes_passed(b, bytes_passed(c, 0))) + u64::trailing_zeros(word) as usize / 8
+}
+
+// Where the zeros from a place on end, found one by one.
+fn zeros_end(bytes: &[u8], from: usize) -> usize
+    requires { ⌜ from ≤ length (now bytes) ⌝ }
+    ensures { λ r. ⌜ r ≡ from + zeroRun (drop from (now (bytes .entry))) ⌝ }
+{
+    let mut i = from;
+    while i < bytes.len() {
+        if bytes[i] != 0 {
             return i;
         }
         i += 1;
     }
     i
+}
+
+// How many zeros the bytes start with: by steps of 32, then one by one.
+fn zero_run(bytes: &[u8]) -> usize
+    ensures { λ r. ⌜ r ≡ zeroRun (now (bytes .entry)) ⌝ }
+{
+    let mut i = 0;
+    while bytes.len() - i >= 32 {
+        let a = word_at(bytes, i);
+        let b = word_at(bytes, i + 8);
+        let c = word_at(bytes, i + 16);
+        let d = word_at(bytes, i + 24);
+        let any = a | b | c | d;
+        if any != 0 {
+            return i + step_zeros(a, b, c, d);
+        }
+        i += 32;
+    }
+    zeros_end(bytes, i)
+}
+
+// How many cells stand from place p on before the first marked one.
+pub fn unmarked_run(track: &[u8], marks: &[u8], p: usize) -> usize
+    ensures { λ r. ⌜ r ≡ unmarkedRun (drop p (cells (now (track .entry)) (now (marks .entry)))) ⌝ }
+{
+    let left = cells_from(track, marks, p);
+    if left == 0 {
+        return 0;
+    }
+    let end = p + left;
+    zero_run(&marks[p..end])
 }
 
 // The length of a span, and whether it runs to index.
