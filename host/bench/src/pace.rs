@@ -9,8 +9,10 @@ use bench::packs::{read, KINDS};
 use std::path::Path;
 use std::time::{Duration, Instant};
 
-/// Turns of each; the fastest one counts.
+/// Turns of each.
 pub const TURNS: usize = 30;
+/// Tracks whose times are taken together, as many as a cylinder has; so another program on the machine spoils few of them.
+const PIECE: usize = 10;
 /// From so many turns on a call that takes long gets no more, when so much time is gone.
 const LEAST_TURNS: usize = 7;
 const ENOUGH: Duration = Duration::from_millis(1_500);
@@ -26,18 +28,22 @@ const CALLS: [Row; 4] = [
     ("add", add_ours, add_fast),
 ];
 
-/// The least time of each call over the tracks, in microseconds a track; they take turns.
+/// The time of each call over the tracks, in microseconds a track: they take turns over all tracks, and of every ten tracks the least time counts.
 pub fn best<const N: usize>(jobs: &mut [Job], calls: [Call; N]) -> [f64; N] {
-    let (mut best, start) = ([Duration::MAX; N], Instant::now());
+    let start = Instant::now();
+    let mut best = calls.map(|_| vec![Duration::MAX; jobs.len().div_ceil(PIECE)]);
     for turn in 0..TURNS {
         if turn >= LEAST_TURNS && start.elapsed() > ENOUGH {
             break;
         }
-        for (least, call) in best.iter_mut().zip(calls) {
-            *least = time(jobs, call).min(*least);
+        for (times, call) in best.iter_mut().zip(calls) {
+            for (least, piece) in times.iter_mut().zip(jobs.chunks_mut(PIECE)) {
+                *least = time(piece, call).min(*least);
+            }
         }
     }
-    best.map(|whole| whole.as_secs_f64() * 1e6 / jobs.len() as f64)
+    let whole = best.map(|times| times.iter().sum::<Duration>());
+    whole.map(|time| time.as_secs_f64() * 1e6 / jobs.len() as f64)
 }
 
 /// The line of Accept over a pack.
@@ -76,7 +82,7 @@ fn jobs_of(folder: &Path, kind: &str) -> Vec<Job> {
 
 /// One line for each pack and call.
 pub fn measure_all(folder: &Path) {
-    println!("drive's pace: the packs in files, best of at most {TURNS} turns; track in us, ratios of the times");
+    println!("drive's pace: the packs in files, of every {PIECE} tracks the best of at most {TURNS} turns; track in us, ratios of the times");
     println!(
         "{:<28} {:>9} {:>9} {:>9} {:>9} {:>9} {:>9}",
         "", "proved", "fast", "to fast", "(pass)", "to pass", "(fast)"
