@@ -4,7 +4,7 @@ use crate::calls::accept_ours;
 use crate::compare;
 use crate::fast_calls::accept_fast;
 use crate::jobs::Job;
-use crate::pace::{best, TURNS};
+use crate::pace::{best, Tracks, TURNS};
 use bench::first_written::{seven_bits, with_first, with_more};
 use bench::Track;
 use reference::generate::Rng;
@@ -49,7 +49,7 @@ fn measure(track: impl Fn(u64) -> Track) -> [f64; 2] {
     let job = |seed| Job::of(seed, track(seed));
     let mut jobs: Vec<Job> = (0..TRACKS).map(job).collect();
     compare(&mut jobs, accept_ours, accept_fast);
-    best(&mut jobs, [accept_ours, accept_fast])
+    best(&mut jobs, Tracks::InCache, [accept_ours, accept_fast])
 }
 
 /// One line for each number of sectors.
@@ -89,7 +89,7 @@ fn measure_lengths() {
 
 /// Both tables.
 pub fn measure_all() {
-    println!("{TRACKS} tracks of a kind, best of {TURNS} turns; track in us");
+    println!("{TRACKS} tracks of a kind, in cache, best of {TURNS} turns; track in us");
     measure_sectors();
     measure_lengths();
 }

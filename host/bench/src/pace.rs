@@ -28,8 +28,15 @@ const CALLS: [Row; 4] = [
     ("add", add_ours, add_fast),
 ];
 
+/// Whether a call's tracks were last read a turn before, or right before by an untimed call, so that the time says nothing of memory.
+#[derive(Clone, Copy, PartialEq, Eq)]
+pub enum Tracks {
+    FromMemory,
+    InCache,
+}
+
 /// The time of each call over the tracks, in microseconds a track: they take turns over all tracks, and of every ten tracks the least time counts.
-pub fn best<const N: usize>(jobs: &mut [Job], calls: [Call; N]) -> [f64; N] {
+pub fn best<const N: usize>(jobs: &mut [Job], tracks: Tracks, calls: [Call; N]) -> [f64; N] {
     let start = Instant::now();
     let mut best = calls.map(|_| vec![Duration::MAX; jobs.len().div_ceil(PIECE)]);
     for turn in 0..TURNS {
@@ -38,6 +45,9 @@ pub fn best<const N: usize>(jobs: &mut [Job], calls: [Call; N]) -> [f64; N] {
         }
         for (times, call) in best.iter_mut().zip(calls) {
             for (least, piece) in times.iter_mut().zip(jobs.chunks_mut(PIECE)) {
+                if tracks == Tracks::InCache {
+                    time(piece, call);
+                }
                 *least = time(piece, call).min(*least);
             }
         }
@@ -47,12 +57,11 @@ pub fn best<const N: usize>(jobs: &mut [Job], calls: [Call; N]) -> [f64; N] {
 }
 
 /// The line of Accept over a pack.
-fn measure_accept(kind: &str, jobs: &mut [Job]) {
+fn measure_accept(name: String, jobs: &mut [Job], tracks: Tracks) {
     compare(jobs, accept_ours, accept_fast);
-    let [proved, fast, plain] = best(jobs, [accept_ours, accept_fast, pass]);
+    let [proved, fast, plain] = best(jobs, tracks, [accept_ours, accept_fast, pass]);
     println!(
-        "{:<28} {proved:>9.3} {fast:>9.3} {:>9.2} {plain:>9.3} {:>9.2} {:>9.2}",
-        format!("accept, {kind}"),
+        "{name:<28} {proved:>9.3} {fast:>9.3} {:>9.2} {plain:>9.3} {:>9.2} {:>9.2}",
         proved / fast,
         proved / plain,
         fast / plain
@@ -62,7 +71,7 @@ fn measure_accept(kind: &str, jobs: &mut [Job]) {
 /// The line of another call over a pack.
 fn measure(kind: &str, jobs: &mut [Job], (name, ours, theirs): Row) {
     compare(jobs, ours, theirs);
-    let [proved, fast] = best(jobs, [ours, theirs]);
+    let [proved, fast] = best(jobs, Tracks::FromMemory, [ours, theirs]);
     println!(
         "{:<28} {proved:>9.3} {fast:>9.3} {:>9.2}",
         format!("{name}, {kind}"),
@@ -89,7 +98,10 @@ pub fn measure_all(folder: &Path) {
     );
     let mut packs = KINDS.map(|kind| (kind, jobs_of(folder, kind)));
     for (kind, jobs) in &mut packs {
-        measure_accept(kind, jobs);
+        measure_accept(format!("accept, {kind}"), jobs, Tracks::FromMemory);
+    }
+    for (kind, jobs) in &mut packs {
+        measure_accept(format!("accept, {kind}, in cache"), jobs, Tracks::InCache);
     }
     for row in CALLS {
         for (kind, jobs) in &mut packs {
