@@ -2,18 +2,18 @@
 use mathlib.Core.Path.{_≡_, refl, sym, ap, ap₂, _∙_}
 use Prim.Native.Nat.{ℕ, suc, _+_, _-_, _≤_, _<_}
 use native.Mathlib.Omega.{arith}
-use mathlib.Core.Bool.{Bool, true}
+use mathlib.Core.Bool.{Bool, true, false}
 use mathlib.Core.List.{List, [], _∷_, _++_}
 use lib.ListN.{length, getD, take, drop, length-append, length-drop}
 use lib.Dec.{leb}
 use borrow.Author.Tests.{lt-leb}
 use lib.Seq.{drop-at}
 use Rattle.format.specs.Answer.{Answer, done}
-use Rattle.format.specs.Judged.{answerOf}
+use Rattle.format.specs.Judged.{Judged, answerOf}
 use Rattle.format.specs.Address.{Address}
 use Rattle.format.specs.Home.{Home}
 use Rattle.format.specs.Count.{Settled, settled}
-use Rattle.format.specs.Sector.{judgeSector}
+use Rattle.format.specs.Sector.{Sector, judgeSector}
 use Rattle.format.specs.Accept.{readSpans}
 use Rattle.format.specs.Lent.{cells}
 use Rattle.format.specs.Span.{spanLength, spanRest, beforeOpening, laterSpans, joined, none, cleanSpan, cleanSpans}
@@ -25,6 +25,8 @@ use Rattle.format.proofs.Spans.Cutting.{before-joined, shape-later, later-joine
 use Rattle.format.proofs.Spans.SpanAgrees.{span-agrees}
 use Rattle.format.proofs.Track.Pairs.{length-cells, drop-cells}
 use Rattle.format.proofs.Find.CandidateBytes.{span-rest-bytes}
+use Rattle.sector.specs.Right.{sectorRight}
+use Rattle.sector.proofs.Right.{right-good, right-not}
 use Rattle.accepting.specs.Starts.{startsOf}
 use Rattle.accepting.specs.Accepting.{LaterSpans}
 use Rattle.accepting.proofs.AcceptAnswers.{spans-refused, spans-good}
@@ -161,3 +163,18 @@ module _ (h : Home) (i : ℕ) (a : Address) (p n : ℕ) (t m ns : List ℕ) (f :
       ≡ answerOf (readSpans h (suc i) (settled a) p (laterSpans (cells t m)))
   front-good z =
       rw (part-all n t, part-all n m, f .later-cut, f .cut, ← f .size) (spans-good h i a p (f .span) (f .later) b by-span z)
+
+-- The same by all its tests together.
+module _ (h : Home) (i : ℕ) (a : Address) (p n : ℕ) (t m ns : List ℕ) (f : Front p n t m ns) (last : Bool) (l : last ≡ leb (length ns) 1) where
+  -- One fails, and b is the answer.
+  pub front-wrong : sectorRight h (suc i) (settled a) last (take (n - 8) (drop 8 t)) ≡ false → (b : Answer) → b ≡ answerOf (judgeSector h (suc i) (settled a) p last (take (n - 8) (drop 8 t)))
+      → b ≡ answerOf (readSpans h (suc i) (settled a) p (laterSpans (cells t m)))
+  front-wrong w b e = front-refused h i a p n t m ns f last l b e (λ z. right-not h (suc i) (settled a) p last (take (n - 8) (drop 8 t)) w (ap (λ (x : Answer). x .number) (sym e) ∙ z))
+
+  -- All hold, and what is left behind it decides.
+  pub front-right : sectorRight h (suc i) (settled a) last (take (n - 8) (drop 8 t)) ≡ true
+      → answerOf (readSpans h (suc (suc i)) (settled a) (p + n) (laterSpans (cells (take (length t - n) (drop n t)) (take (length m - n) (drop n m)))))
+      ≡ answerOf (readSpans h (suc i) (settled a) p (laterSpans (cells t m)))
+  front-right w =
+      front-good h i a p n t m ns f last l (answerOf (judgeSector h (suc i) (settled a) p last (take (n - 8) (drop 8 t)))) refl
+      (ap (λ (j : Judged Sector). answerOf j .number) (right-good h (suc i) (settled a) p last (take (n - 8) (drop 8 t)) w))

@@ -87,9 +87,8 @@ fn judge_odd(
     }
     let span = listed_span(starts, 1, p, p + track.len());
     let n = span.length;
-    let a = judge_sector(h, 1, Named::Settled(named), p, span.last, &track[MARKED..n]);
-    if a.number != 0 {
-        return a;
+    if !sector::later_right(h, 1, named, span.last, &track[MARKED..n]) {
+        return judge_sector(h, 1, Named::Settled(named), p, span.last, &track[MARKED..n]);
     }
     judge_even(&track[n..], &marks[n..], &starts[1..], p + n, h, named)
 }
@@ -111,9 +110,8 @@ fn judge_even(
     }
     let span = listed_span(starts, 1, p, p + track.len());
     let n = span.length;
-    let a = judge_sector(h, 2, Named::Settled(named), p, span.last, &track[MARKED..n]);
-    if a.number != 0 {
-        return a;
+    if !sector::later_right(h, 2, named, span.last, &track[MARKED..n]) {
+        return judge_sector(h, 2, Named::Settled(named), p, span.last, &track[MARKED..n]);
     }
     judge_odd(&track[n..], &marks[n..], &starts[1..], p + n, h, named)
 }

@@ -5,3 +5,4 @@ pub mod Field
 pub mod BlocksJudged
 pub mod BlockEnd
 pub mod Measured
+pub mod Right

@@ -9,6 +9,7 @@ ghost use Rattle.format.specs.Blocks.{blocksAt, judgeFit};
 ghost use Rattle.format.specs.Sector.{openingLength};
 ghost use Rattle.sector.specs.As.{asTested};
 ghost use Rattle.sector.specs.Measured.{asMeasured, measuredIn};
+ghost use Rattle.sector.specs.Right.{isSound, blocksRight};
 use crate::bytes::check_follows;
 use crate::bytes::closing_follows;
 use crate::bytes::starts_plain;
@@ -181,6 +182,29 @@ fn test_data(r: &[u8]) -> Tested
     } else {
         test_block(n, &r[at..])
     }
+}
+
+// Whether nothing is at fault in a block.
+fn is_sound(t: Tested) -> bool
+    ensures { λ b. ⌜ b ≡ isSound (asTested t) ⌝ }
+{
+    match t {
+        Tested::Sound => true,
+        Tested::Faulty(_) => false,
+    }
+}
+
+// Whether the blocks and the least gap lie in the span and nothing is at fault in them; no answer is made.
+pub(crate) fn blocks_right(last: bool, r: &[u8]) -> bool
+    ensures { λ b. ⌜ b ≡ blocksRight last (now (r .entry)) ⌝ }
+{
+    if !blocks_fit(last, r) {
+        return false;
+    }
+    if !is_sound(test_key(r)) {
+        return false;
+    }
+    is_sound(test_data(r))
 }
 
 // The answer for the blocks of the count at p: 9 where they and the least gap do not lie in its span.

@@ -3,7 +3,9 @@ ghost use mathlib.Core.Path.{_≡_};
 ghost use Rattle.format.specs.Answer.{asAnswer};
 ghost use Rattle.format.specs.Judged.{answerOf};
 ghost use Rattle.format.specs.Sector.{openingLength, judgeCount, readBlocks};
-ghost use Rattle.sector.specs.As.{asHome, asSettled};
+ghost use Rattle.format.specs.Count.{settled};
+ghost use Rattle.sector.specs.As.{asAddress, asHome, asSettled};
+ghost use Rattle.sector.specs.Right.{sectorRight};
 
 pub mod blocks;
 pub mod bytes;
@@ -12,6 +14,7 @@ pub mod fields;
 
 pub use blocks::KEY_OFFSET;
 pub use blocks::Measured;
+use blocks::blocks_right;
 pub use blocks::judge_data;
 pub use blocks::judge_fit;
 pub use blocks::judge_key;
@@ -73,4 +76,20 @@ pub fn judge_blocks(first: bool, p: u32, last: bool, r: &[u8]) -> format::Answer
         return key;
     }
     judge_data(first, p, r)
+}
+
+// Whether nothing is at fault in a later sector, the one in position i, where sector 0 names the address a; no answer is made.
+pub fn later_right(h: Home, i: usize, a: Address, last: bool, r: &[u8]) -> bool
+    ensures { λ b. ⌜ b ≡ sectorRight (asHome h) i (settled (asAddress a)) last (now (r .entry)) ⌝ }
+{
+    if !count_fits(r) {
+        return false;
+    }
+    if !count_closed(r) {
+        return false;
+    }
+    if !count_fields_right(h, i, Named::Settled(a), r) {
+        return false;
+    }
+    blocks_right(last, r)
 }

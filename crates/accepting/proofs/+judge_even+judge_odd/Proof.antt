@@ -3,12 +3,13 @@ use mathlib.Core.Path.{refl, sym, ap, _∙_}
 use Prim.Native.Nat.{ℕ, _+_, _-_, _<_}
 use native.Mathlib.Omega.{arith}
 use borrow.Author.Needs.{needs}
+use borrow.Author.Tests.{not-true, not-false}
 use lib.ListN.{length, getD, length-drop}
 use Rattle.format.specs.Count.{settled}
 use Rattle.sector.specs.As.{asAddress, asHome}
 use Rattle.base.proofs.Lists.{part-all}
 use Rattle.accepting.proofs.AcceptAnswers.{answers-two}
-use Rattle.accepting.proofs.AcceptSpans.{front, later-none, rest-next, front-refused, front-good}
+use Rattle.accepting.proofs.AcceptSpans.{front, later-none, rest-next, front-wrong, front-right}
 use borrow.Fn.Kinds.{In}
 use borrow.Fn.PlainCycle.{Measures, is, falls, and}
 use Rattle.accepting.proofs.judge_even.Reads as judge-even
@@ -20,6 +21,7 @@ use Rattle.accepting.proofs.+judge_even+judge_odd.Lts-judge_odd as judg
 use Rattle.accepting.proofs.judge_sector.Reads as judge-sector-reads
 use Rattle.accepting.proofs.listed_span.Reads as listed-span-reads
 use Rattle.format.proofs.done.Reads as done-reads
+use Rattle.sector.proofs.later_right.Reads as later-right-reads
 use Rattle.accepting.proofs.+judge_even+judge_odd.{statement}
 use Rattle.accepting.proofs.+judge_even+judge_odd.Tie.{close}
 
@@ -50,6 +52,8 @@ judge-even-done-requires : (t : ℕ) → judge-even-lts.Need-done-requires (
   done-reads.Learnt,
   listed-span-reads.Asked,
   listed-span-reads.Learnt,
+  later-right-reads.Asked,
+  later-right-reads.Learnt,
   judge-sector-reads.Asked,
   judge-sector-reads.Learnt,
   judge-odd-below t,
@@ -62,6 +66,8 @@ judge-even-returns : (t : ℕ) → judge-even-lts.Need-returns (
   done-reads.Learnt,
   listed-span-reads.Asked,
   listed-span-reads.Learnt,
+  later-right-reads.Asked,
+  later-right-reads.Learnt,
   judge-sector-reads.Asked,
   judge-sector-reads.Learnt,
   judge-odd-below t,
@@ -76,6 +82,8 @@ judge-even-add-listed-span : (t : ℕ) → judge-even-lts.Need-add-listed-span (
   done-reads.Learnt,
   listed-span-reads.Asked,
   listed-span-reads.Learnt,
+  later-right-reads.Asked,
+  later-right-reads.Learnt,
   judge-sector-reads.Asked,
   judge-sector-reads.Learnt,
   judge-odd-below t,
@@ -88,6 +96,8 @@ judge-even-listed-span-requires : (t : ℕ) → judge-even-lts.Need-listed-span-
   done-reads.Learnt,
   listed-span-reads.Asked,
   listed-span-reads.Learnt,
+  later-right-reads.Asked,
+  later-right-reads.Learnt,
   judge-sector-reads.Asked,
   judge-sector-reads.Learnt,
   judge-odd-below t,
@@ -98,20 +108,90 @@ judge-even-listed-span-requires t c κs =
     let f = front (a .p) (a .track .now) (a .marks .now) (a .starts .now) (getD (a .starts .now) 1 (a .p + length (a .track .now)) - a .p) (c .before .before .before .before .pre .1) refl (omega (arith, c .if1 .left)) in
     omega (arith, f .opening)
 
+judge-even-sub-later-right : (t : ℕ) → judge-even-lts.Need-sub-later-right (
+  done-reads.Asked,
+  done-reads.Learnt,
+  listed-span-reads.Asked,
+  listed-span-reads.Learnt,
+  later-right-reads.Asked,
+  later-right-reads.Learnt,
+  judge-sector-reads.Asked,
+  judge-sector-reads.Learnt,
+  judge-odd-below t,
+  judge-odd.Post,
+) (judge-even-at t) judge-even.Post
+judge-even-sub-later-right t c =
+    let a = c .before .before .before .before .before .args in
+    let s = c .listed-span in
+    let f = front (a .p) (a .track .now) (a .marks .now) (a .starts .now) (s .result .length) (c .before .before .before .before .before .pre .1) (s .ensures .0) (omega (arith, c .before .if1 .left)) in
+    omega (arith, f .opening, f .fits)
+
+judge-even-part-later-right-start : (t : ℕ) → judge-even-lts.Need-part-later-right-start (
+  done-reads.Asked,
+  done-reads.Learnt,
+  listed-span-reads.Asked,
+  listed-span-reads.Learnt,
+  later-right-reads.Asked,
+  later-right-reads.Learnt,
+  judge-sector-reads.Asked,
+  judge-sector-reads.Learnt,
+  judge-odd-below t,
+  judge-odd.Post,
+) (judge-even-at t) judge-even.Post
+judge-even-part-later-right-start t c =
+    let a = c .before .before .before .before .before .args in
+    let s = c .listed-span in
+    let f = front (a .p) (a .track .now) (a .marks .now) (a .starts .now) (s .result .length) (c .before .before .before .before .before .pre .1) (s .ensures .0) (omega (arith, c .before .if1 .left)) in
+    omega (arith, f .opening, f .fits)
+
+judge-even-part-later-right-end : (t : ℕ) → judge-even-lts.Need-part-later-right-end (
+  done-reads.Asked,
+  done-reads.Learnt,
+  listed-span-reads.Asked,
+  listed-span-reads.Learnt,
+  later-right-reads.Asked,
+  later-right-reads.Learnt,
+  judge-sector-reads.Asked,
+  judge-sector-reads.Learnt,
+  judge-odd-below t,
+  judge-odd.Post,
+) (judge-even-at t) judge-even.Post
+judge-even-part-later-right-end t c =
+    let a = c .before .before .before .before .before .args in
+    let s = c .listed-span in
+    let f = front (a .p) (a .track .now) (a .marks .now) (a .starts .now) (s .result .length) (c .before .before .before .before .before .pre .1) (s .ensures .0) (omega (arith, c .before .if1 .left)) in
+    omega (arith, f .opening, f .fits)
+
+judge-even-later-right-requires : (t : ℕ) → judge-even-lts.Need-later-right-requires (
+  done-reads.Asked,
+  done-reads.Learnt,
+  listed-span-reads.Asked,
+  listed-span-reads.Learnt,
+  later-right-reads.Asked,
+  later-right-reads.Learnt,
+  judge-sector-reads.Asked,
+  judge-sector-reads.Learnt,
+  judge-odd-below t,
+  judge-odd.Post,
+) (judge-even-at t) judge-even.Post
+judge-even-later-right-requires t c κs = search needs
+
 judge-even-sub-judge-sector : (t : ℕ) → judge-even-lts.Need-sub-judge-sector (
   done-reads.Asked,
   done-reads.Learnt,
   listed-span-reads.Asked,
   listed-span-reads.Learnt,
+  later-right-reads.Asked,
+  later-right-reads.Learnt,
   judge-sector-reads.Asked,
   judge-sector-reads.Learnt,
   judge-odd-below t,
   judge-odd.Post,
 ) (judge-even-at t) judge-even.Post
 judge-even-sub-judge-sector t c =
-    let a = c .before .before .before .before .before .args in
-    let s = c .listed-span in
-    let f = front (a .p) (a .track .now) (a .marks .now) (a .starts .now) (s .result .length) (c .before .before .before .before .before .pre .1) (s .ensures .0) (omega (arith, c .before .if1 .left)) in
+    let a = c .before .before .before .before .before .before .before .before .args in
+    let s = c .before .before .before .listed-span in
+    let f = front (a .p) (a .track .now) (a .marks .now) (a .starts .now) (s .result .length) (c .before .before .before .before .before .before .before .before .pre .1) (s .ensures .0) (omega (arith, c .before .before .before .before .if1 .left)) in
     omega (arith, f .opening, f .fits)
 
 judge-even-part-judge-sector-start : (t : ℕ) → judge-even-lts.Need-part-judge-sector-start (
@@ -119,15 +199,17 @@ judge-even-part-judge-sector-start : (t : ℕ) → judge-even-lts.Need-part-judg
   done-reads.Learnt,
   listed-span-reads.Asked,
   listed-span-reads.Learnt,
+  later-right-reads.Asked,
+  later-right-reads.Learnt,
   judge-sector-reads.Asked,
   judge-sector-reads.Learnt,
   judge-odd-below t,
   judge-odd.Post,
 ) (judge-even-at t) judge-even.Post
 judge-even-part-judge-sector-start t c =
-    let a = c .before .before .before .before .before .args in
-    let s = c .listed-span in
-    let f = front (a .p) (a .track .now) (a .marks .now) (a .starts .now) (s .result .length) (c .before .before .before .before .before .pre .1) (s .ensures .0) (omega (arith, c .before .if1 .left)) in
+    let a = c .before .before .before .before .before .before .before .before .args in
+    let s = c .before .before .before .listed-span in
+    let f = front (a .p) (a .track .now) (a .marks .now) (a .starts .now) (s .result .length) (c .before .before .before .before .before .before .before .before .pre .1) (s .ensures .0) (omega (arith, c .before .before .before .before .if1 .left)) in
     omega (arith, f .opening, f .fits)
 
 judge-even-part-judge-sector-end : (t : ℕ) → judge-even-lts.Need-part-judge-sector-end (
@@ -135,15 +217,17 @@ judge-even-part-judge-sector-end : (t : ℕ) → judge-even-lts.Need-part-judge-
   done-reads.Learnt,
   listed-span-reads.Asked,
   listed-span-reads.Learnt,
+  later-right-reads.Asked,
+  later-right-reads.Learnt,
   judge-sector-reads.Asked,
   judge-sector-reads.Learnt,
   judge-odd-below t,
   judge-odd.Post,
 ) (judge-even-at t) judge-even.Post
 judge-even-part-judge-sector-end t c =
-    let a = c .before .before .before .before .before .args in
-    let s = c .listed-span in
-    let f = front (a .p) (a .track .now) (a .marks .now) (a .starts .now) (s .result .length) (c .before .before .before .before .before .pre .1) (s .ensures .0) (omega (arith, c .before .if1 .left)) in
+    let a = c .before .before .before .before .before .before .before .before .args in
+    let s = c .before .before .before .listed-span in
+    let f = front (a .p) (a .track .now) (a .marks .now) (a .starts .now) (s .result .length) (c .before .before .before .before .before .before .before .before .pre .1) (s .ensures .0) (omega (arith, c .before .before .before .before .if1 .left)) in
     omega (arith, f .opening, f .fits)
 
 judge-even-judge-sector-requires : (t : ℕ) → judge-even-lts.Need-judge-sector-requires (
@@ -151,43 +235,49 @@ judge-even-judge-sector-requires : (t : ℕ) → judge-even-lts.Need-judge-secto
   done-reads.Learnt,
   listed-span-reads.Asked,
   listed-span-reads.Learnt,
+  later-right-reads.Asked,
+  later-right-reads.Learnt,
   judge-sector-reads.Asked,
   judge-sector-reads.Learnt,
   judge-odd-below t,
   judge-odd.Post,
 ) (judge-even-at t) judge-even.Post
-judge-even-judge-sector-requires t c κs = omega (arith, c .before .before .before .before .before .before .pre .1 .within)
+judge-even-judge-sector-requires t c κs = omega (arith, c .before .before .before .before .before .before .before .before .before .pre .1 .within)
 
 judge-even-returns-2 : (t : ℕ) → judge-even-lts.Need-returns-2 (
   done-reads.Asked,
   done-reads.Learnt,
   listed-span-reads.Asked,
   listed-span-reads.Learnt,
+  later-right-reads.Asked,
+  later-right-reads.Learnt,
   judge-sector-reads.Asked,
   judge-sector-reads.Learnt,
   judge-odd-below t,
   judge-odd.Post,
 ) (judge-even-at t) judge-even.Post
 judge-even-returns-2 t c =
-    let a = c .before .before .before .before .before .before .before .before .before .args in
-    let s = c .before .before .before .before .listed-span in
-    let f = front (a .p) (a .track .now) (a .marks .now) (a .starts .now) (s .result .length) (c .before .before .before .before .before .before .before .before .before .pre .1) (s .ensures .0) (omega (arith, c .before .before .before .before .before .if1 .left)) in
-    front-refused (asHome (a .h)) 1 (asAddress (a .named)) (a .p) (s .result .length) (a .track .now) (a .marks .now) (a .starts .now) f (s .result .last) (s .ensures .1) _ (c .before .before .judge-sector .ensures) (c .if2 .taken)
+    let a = c .before .before .before .before .before .before .before .before .before .before .args in
+    let s = c .before .before .before .before .before .listed-span in
+    let f = front (a .p) (a .track .now) (a .marks .now) (a .starts .now) (s .result .length) (c .before .before .before .before .before .before .before .before .before .before .pre .1) (s .ensures .0) (omega (arith, c .before .before .before .before .before .before .if1 .left)) in
+    front-wrong (asHome (a .h)) 1 (asAddress (a .named)) (a .p) (s .result .length) (a .track .now) (a .marks .now) (a .starts .now) f (s .result .last) (s .ensures .1) (sym (c .before .before .before .later-right .ensures) ∙ not-true _ (c .before .before .if2 .taken)) _ (c .judge-sector .ensures)
 
 judge-even-sub-judge-odd : (t : ℕ) → judge-even-lts.Need-sub-judge-odd (
   done-reads.Asked,
   done-reads.Learnt,
   listed-span-reads.Asked,
   listed-span-reads.Learnt,
+  later-right-reads.Asked,
+  later-right-reads.Learnt,
   judge-sector-reads.Asked,
   judge-sector-reads.Learnt,
   judge-odd-below t,
   judge-odd.Post,
 ) (judge-even-at t) judge-even.Post
 judge-even-sub-judge-odd t c =
-    let a = c .before .before .before .before .before .before .before .before .before .args in
-    let s = c .before .before .before .before .listed-span in
-    let f = front (a .p) (a .track .now) (a .marks .now) (a .starts .now) (s .result .length) (c .before .before .before .before .before .before .before .before .before .pre .1) (s .ensures .0) (omega (arith, c .before .before .before .before .before .if1 .left)) in
+    let a = c .before .before .before .before .before .before .before .before .args in
+    let s = c .before .before .before .listed-span in
+    let f = front (a .p) (a .track .now) (a .marks .now) (a .starts .now) (s .result .length) (c .before .before .before .before .before .before .before .before .pre .1) (s .ensures .0) (omega (arith, c .before .before .before .before .if1 .left)) in
     omega (arith, f .fits)
 
 judge-even-part-judge-odd-start : (t : ℕ) → judge-even-lts.Need-part-judge-odd-start (
@@ -195,15 +285,17 @@ judge-even-part-judge-odd-start : (t : ℕ) → judge-even-lts.Need-part-judge-o
   done-reads.Learnt,
   listed-span-reads.Asked,
   listed-span-reads.Learnt,
+  later-right-reads.Asked,
+  later-right-reads.Learnt,
   judge-sector-reads.Asked,
   judge-sector-reads.Learnt,
   judge-odd-below t,
   judge-odd.Post,
 ) (judge-even-at t) judge-even.Post
 judge-even-part-judge-odd-start t c =
-    let a = c .before .before .before .before .before .before .before .before .before .args in
-    let s = c .before .before .before .before .listed-span in
-    let f = front (a .p) (a .track .now) (a .marks .now) (a .starts .now) (s .result .length) (c .before .before .before .before .before .before .before .before .before .pre .1) (s .ensures .0) (omega (arith, c .before .before .before .before .before .if1 .left)) in
+    let a = c .before .before .before .before .before .before .before .before .args in
+    let s = c .before .before .before .listed-span in
+    let f = front (a .p) (a .track .now) (a .marks .now) (a .starts .now) (s .result .length) (c .before .before .before .before .before .before .before .before .pre .1) (s .ensures .0) (omega (arith, c .before .before .before .before .if1 .left)) in
     omega (arith, f .fits)
 
 judge-even-part-judge-odd-end : (t : ℕ) → judge-even-lts.Need-part-judge-odd-end (
@@ -211,15 +303,17 @@ judge-even-part-judge-odd-end : (t : ℕ) → judge-even-lts.Need-part-judge-odd
   done-reads.Learnt,
   listed-span-reads.Asked,
   listed-span-reads.Learnt,
+  later-right-reads.Asked,
+  later-right-reads.Learnt,
   judge-sector-reads.Asked,
   judge-sector-reads.Learnt,
   judge-odd-below t,
   judge-odd.Post,
 ) (judge-even-at t) judge-even.Post
 judge-even-part-judge-odd-end t c =
-    let a = c .before .before .before .before .before .before .before .before .before .args in
-    let s = c .before .before .before .before .listed-span in
-    let f = front (a .p) (a .track .now) (a .marks .now) (a .starts .now) (s .result .length) (c .before .before .before .before .before .before .before .before .before .pre .1) (s .ensures .0) (omega (arith, c .before .before .before .before .before .if1 .left)) in
+    let a = c .before .before .before .before .before .before .before .before .args in
+    let s = c .before .before .before .listed-span in
+    let f = front (a .p) (a .track .now) (a .marks .now) (a .starts .now) (s .result .length) (c .before .before .before .before .before .before .before .before .pre .1) (s .ensures .0) (omega (arith, c .before .before .before .before .if1 .left)) in
     omega (arith, f .fits)
 
 judge-even-sub-judge-odd-2 : (t : ℕ) → judge-even-lts.Need-sub-judge-odd-2 (
@@ -227,63 +321,71 @@ judge-even-sub-judge-odd-2 : (t : ℕ) → judge-even-lts.Need-sub-judge-odd-2 (
   done-reads.Learnt,
   listed-span-reads.Asked,
   listed-span-reads.Learnt,
+  later-right-reads.Asked,
+  later-right-reads.Learnt,
   judge-sector-reads.Asked,
   judge-sector-reads.Learnt,
   judge-odd-below t,
   judge-odd.Post,
 ) (judge-even-at t) judge-even.Post
 judge-even-sub-judge-odd-2 t c =
-    let a = c .before .before .before .before .before .before .before .before .before .before .args in
-    let s = c .before .before .before .before .before .listed-span in
-    let f = front (a .p) (a .track .now) (a .marks .now) (a .starts .now) (s .result .length) (c .before .before .before .before .before .before .before .before .before .before .pre .1) (s .ensures .0) (omega (arith, c .before .before .before .before .before .before .if1 .left)) in
-    omega (arith, f .fits, c .before .before .before .before .before .before .before .before .before .before .pre .1 .lengths)
+    let a = c .before .before .before .before .before .before .before .before .before .args in
+    let s = c .before .before .before .before .listed-span in
+    let f = front (a .p) (a .track .now) (a .marks .now) (a .starts .now) (s .result .length) (c .before .before .before .before .before .before .before .before .before .pre .1) (s .ensures .0) (omega (arith, c .before .before .before .before .before .if1 .left)) in
+    omega (arith, f .fits, c .before .before .before .before .before .before .before .before .before .pre .1 .lengths)
 
 judge-even-part-judge-odd-start-2 : (t : ℕ) → judge-even-lts.Need-part-judge-odd-start-2 (
   done-reads.Asked,
   done-reads.Learnt,
   listed-span-reads.Asked,
   listed-span-reads.Learnt,
+  later-right-reads.Asked,
+  later-right-reads.Learnt,
   judge-sector-reads.Asked,
   judge-sector-reads.Learnt,
   judge-odd-below t,
   judge-odd.Post,
 ) (judge-even-at t) judge-even.Post
 judge-even-part-judge-odd-start-2 t c =
-    let a = c .before .before .before .before .before .before .before .before .before .before .args in
-    let s = c .before .before .before .before .before .listed-span in
-    let f = front (a .p) (a .track .now) (a .marks .now) (a .starts .now) (s .result .length) (c .before .before .before .before .before .before .before .before .before .before .pre .1) (s .ensures .0) (omega (arith, c .before .before .before .before .before .before .if1 .left)) in
-    omega (arith, f .fits, c .before .before .before .before .before .before .before .before .before .before .pre .1 .lengths)
+    let a = c .before .before .before .before .before .before .before .before .before .args in
+    let s = c .before .before .before .before .listed-span in
+    let f = front (a .p) (a .track .now) (a .marks .now) (a .starts .now) (s .result .length) (c .before .before .before .before .before .before .before .before .before .pre .1) (s .ensures .0) (omega (arith, c .before .before .before .before .before .if1 .left)) in
+    omega (arith, f .fits, c .before .before .before .before .before .before .before .before .before .pre .1 .lengths)
 
 judge-even-part-judge-odd-end-2 : (t : ℕ) → judge-even-lts.Need-part-judge-odd-end-2 (
   done-reads.Asked,
   done-reads.Learnt,
   listed-span-reads.Asked,
   listed-span-reads.Learnt,
+  later-right-reads.Asked,
+  later-right-reads.Learnt,
   judge-sector-reads.Asked,
   judge-sector-reads.Learnt,
   judge-odd-below t,
   judge-odd.Post,
 ) (judge-even-at t) judge-even.Post
 judge-even-part-judge-odd-end-2 t c =
-    let a = c .before .before .before .before .before .before .before .before .before .before .args in
-    let s = c .before .before .before .before .before .listed-span in
-    let f = front (a .p) (a .track .now) (a .marks .now) (a .starts .now) (s .result .length) (c .before .before .before .before .before .before .before .before .before .before .pre .1) (s .ensures .0) (omega (arith, c .before .before .before .before .before .before .if1 .left)) in
-    omega (arith, f .fits, c .before .before .before .before .before .before .before .before .before .before .pre .1 .lengths)
+    let a = c .before .before .before .before .before .before .before .before .before .args in
+    let s = c .before .before .before .before .listed-span in
+    let f = front (a .p) (a .track .now) (a .marks .now) (a .starts .now) (s .result .length) (c .before .before .before .before .before .before .before .before .before .pre .1) (s .ensures .0) (omega (arith, c .before .before .before .before .before .if1 .left)) in
+    omega (arith, f .fits, c .before .before .before .before .before .before .before .before .before .pre .1 .lengths)
 
 judge-even-sub-judge-odd-3 : (t : ℕ) → judge-even-lts.Need-sub-judge-odd-3 (
   done-reads.Asked,
   done-reads.Learnt,
   listed-span-reads.Asked,
   listed-span-reads.Learnt,
+  later-right-reads.Asked,
+  later-right-reads.Learnt,
   judge-sector-reads.Asked,
   judge-sector-reads.Learnt,
   judge-odd-below t,
   judge-odd.Post,
 ) (judge-even-at t) judge-even.Post
 judge-even-sub-judge-odd-3 t c =
-    let a = c .before .before .before .before .before .before .before .before .before .before .before .args in
-    let s = c .before .before .before .before .before .before .listed-span in
-    let f = front (a .p) (a .track .now) (a .marks .now) (a .starts .now) (s .result .length) (c .before .before .before .before .before .before .before .before .before .before .before .pre .1) (s .ensures .0) (omega (arith, c .before .before .before .before .before .before .before .if1 .left)) in
+    let a = c .before .before .before .before .before .before .before .before .before .before .args in
+    let s = c .before .before .before .before .before .listed-span in
+    let f = front (a .p) (a .track .now) (a .marks .now) (a .starts .now) (s .result .length) (c .before .before .before .before .before .before .before .before .before .before .pre .1) (s .ensures .0) (omega (arith, c .before .before .before .before .before .before .if1 .left)) in
     omega (arith, f .listed)
 
 judge-even-part-judge-odd-start-3 : (t : ℕ) → judge-even-lts.Need-part-judge-odd-start-3 (
@@ -291,15 +393,17 @@ judge-even-part-judge-odd-start-3 : (t : ℕ) → judge-even-lts.Need-part-judge
   done-reads.Learnt,
   listed-span-reads.Asked,
   listed-span-reads.Learnt,
+  later-right-reads.Asked,
+  later-right-reads.Learnt,
   judge-sector-reads.Asked,
   judge-sector-reads.Learnt,
   judge-odd-below t,
   judge-odd.Post,
 ) (judge-even-at t) judge-even.Post
 judge-even-part-judge-odd-start-3 t c =
-    let a = c .before .before .before .before .before .before .before .before .before .before .before .args in
-    let s = c .before .before .before .before .before .before .listed-span in
-    let f = front (a .p) (a .track .now) (a .marks .now) (a .starts .now) (s .result .length) (c .before .before .before .before .before .before .before .before .before .before .before .pre .1) (s .ensures .0) (omega (arith, c .before .before .before .before .before .before .before .if1 .left)) in
+    let a = c .before .before .before .before .before .before .before .before .before .before .args in
+    let s = c .before .before .before .before .before .listed-span in
+    let f = front (a .p) (a .track .now) (a .marks .now) (a .starts .now) (s .result .length) (c .before .before .before .before .before .before .before .before .before .before .pre .1) (s .ensures .0) (omega (arith, c .before .before .before .before .before .before .if1 .left)) in
     omega (arith, f .listed)
 
 judge-even-part-judge-odd-end-3 : (t : ℕ) → judge-even-lts.Need-part-judge-odd-end-3 (
@@ -307,15 +411,17 @@ judge-even-part-judge-odd-end-3 : (t : ℕ) → judge-even-lts.Need-part-judge-o
   done-reads.Learnt,
   listed-span-reads.Asked,
   listed-span-reads.Learnt,
+  later-right-reads.Asked,
+  later-right-reads.Learnt,
   judge-sector-reads.Asked,
   judge-sector-reads.Learnt,
   judge-odd-below t,
   judge-odd.Post,
 ) (judge-even-at t) judge-even.Post
 judge-even-part-judge-odd-end-3 t c =
-    let a = c .before .before .before .before .before .before .before .before .before .before .before .args in
-    let s = c .before .before .before .before .before .before .listed-span in
-    let f = front (a .p) (a .track .now) (a .marks .now) (a .starts .now) (s .result .length) (c .before .before .before .before .before .before .before .before .before .before .before .pre .1) (s .ensures .0) (omega (arith, c .before .before .before .before .before .before .before .if1 .left)) in
+    let a = c .before .before .before .before .before .before .before .before .before .before .args in
+    let s = c .before .before .before .before .before .listed-span in
+    let f = front (a .p) (a .track .now) (a .marks .now) (a .starts .now) (s .result .length) (c .before .before .before .before .before .before .before .before .before .before .pre .1) (s .ensures .0) (omega (arith, c .before .before .before .before .before .before .if1 .left)) in
     omega (arith, f .listed)
 
 judge-even-add-judge-odd : (t : ℕ) → judge-even-lts.Need-add-judge-odd (
@@ -323,31 +429,35 @@ judge-even-add-judge-odd : (t : ℕ) → judge-even-lts.Need-add-judge-odd (
   done-reads.Learnt,
   listed-span-reads.Asked,
   listed-span-reads.Learnt,
+  later-right-reads.Asked,
+  later-right-reads.Learnt,
   judge-sector-reads.Asked,
   judge-sector-reads.Learnt,
   judge-odd-below t,
   judge-odd.Post,
 ) (judge-even-at t) judge-even.Post
 judge-even-add-judge-odd t c =
-    let a = c .before .before .before .before .before .before .before .before .before .before .before .before .args in
-    let s = c .before .before .before .before .before .before .before .listed-span in
-    let f = front (a .p) (a .track .now) (a .marks .now) (a .starts .now) (s .result .length) (c .before .before .before .before .before .before .before .before .before .before .before .before .pre .1) (s .ensures .0) (omega (arith, c .before .before .before .before .before .before .before .before .if1 .left)) in
-    omega (arith, f .fits, c .before .before .before .before .before .before .before .before .before .before .before .before .pre .1 .within)
+    let a = c .before .before .before .before .before .before .before .before .before .before .before .args in
+    let s = c .before .before .before .before .before .before .listed-span in
+    let f = front (a .p) (a .track .now) (a .marks .now) (a .starts .now) (s .result .length) (c .before .before .before .before .before .before .before .before .before .before .before .pre .1) (s .ensures .0) (omega (arith, c .before .before .before .before .before .before .before .if1 .left)) in
+    omega (arith, f .fits, c .before .before .before .before .before .before .before .before .before .before .before .pre .1 .within)
 
 judge-even-judge-odd-requires : (t : ℕ) → judge-even-lts.Need-judge-odd-requires (
   done-reads.Asked,
   done-reads.Learnt,
   listed-span-reads.Asked,
   listed-span-reads.Learnt,
+  later-right-reads.Asked,
+  later-right-reads.Learnt,
   judge-sector-reads.Asked,
   judge-sector-reads.Learnt,
   judge-odd-below t,
   judge-odd.Post,
 ) (judge-even-at t) judge-even.Post
 judge-even-judge-odd-requires t c κs =
-    let a = c .before .before .before .before .before .before .before .before .before .before .before .before .args in
-    let s = c .before .before .before .before .before .before .before .listed-span in
-    let f = front (a .p) (a .track .now) (a .marks .now) (a .starts .now) (s .result .length) (c .before .before .before .before .before .before .before .before .before .before .before .before .pre .1) (s .ensures .0) (omega (arith, c .before .before .before .before .before .before .before .before .if1 .left)) in
+    let a = c .before .before .before .before .before .before .before .before .before .before .before .args in
+    let s = c .before .before .before .before .before .before .listed-span in
+    let f = front (a .p) (a .track .now) (a .marks .now) (a .starts .now) (s .result .length) (c .before .before .before .before .before .before .before .before .before .before .before .pre .1) (s .ensures .0) (omega (arith, c .before .before .before .before .before .before .before .if1 .left)) in
     (omega (arith, f .opening, f .fits, length-drop (s .result .length) (a .track .now), ap length (part-all (s .result .length) (a .track .now))), rest-next (a .p) (s .result .length) (a .track .now) (a .marks .now) (a .starts .now) f)
 
 judge-even-returns-3 : (t : ℕ) → judge-even-lts.Need-returns-3 (
@@ -355,22 +465,26 @@ judge-even-returns-3 : (t : ℕ) → judge-even-lts.Need-returns-3 (
   done-reads.Learnt,
   listed-span-reads.Asked,
   listed-span-reads.Learnt,
+  later-right-reads.Asked,
+  later-right-reads.Learnt,
   judge-sector-reads.Asked,
   judge-sector-reads.Learnt,
   judge-odd-below t,
   judge-odd.Post,
 ) (judge-even-at t) judge-even.Post
 judge-even-returns-3 t c =
-    let a = c .before .before .before .before .before .before .before .before .before .before .before .before .before .args in
-    let s = c .before .before .before .before .before .before .before .before .listed-span in
-    let f = front (a .p) (a .track .now) (a .marks .now) (a .starts .now) (s .result .length) (c .before .before .before .before .before .before .before .before .before .before .before .before .before .pre .1) (s .ensures .0) (omega (arith, c .before .before .before .before .before .before .before .before .before .if1 .left)) in
-    c .judge-odd .ensures ∙ answers-two (asHome (a .h)) 0 (settled (asAddress (a .named))) (a .p + s .result .length) _ ∙ front-good (asHome (a .h)) 1 (asAddress (a .named)) (a .p) (s .result .length) (a .track .now) (a .marks .now) (a .starts .now) f (s .result .last) (s .ensures .1) _ (c .before .before .before .before .before .before .judge-sector .ensures) (c .before .before .before .before .if2 .left)
+    let a = c .before .before .before .before .before .before .before .before .before .before .before .before .args in
+    let s = c .before .before .before .before .before .before .before .listed-span in
+    let f = front (a .p) (a .track .now) (a .marks .now) (a .starts .now) (s .result .length) (c .before .before .before .before .before .before .before .before .before .before .before .before .pre .1) (s .ensures .0) (omega (arith, c .before .before .before .before .before .before .before .before .if1 .left)) in
+    c .judge-odd .ensures ∙ answers-two (asHome (a .h)) 0 (settled (asAddress (a .named))) (a .p + s .result .length) _ ∙ front-right (asHome (a .h)) 1 (asAddress (a .named)) (a .p) (s .result .length) (a .track .now) (a .marks .now) (a .starts .now) f (s .result .last) (s .ensures .1) (sym (c .before .before .before .before .before .later-right .ensures) ∙ not-false _ (c .before .before .before .before .if2 .left))
 
 judge-odd-done-requires : (t : ℕ) → judge-odd-lts.Need-done-requires (
   done-reads.Asked,
   done-reads.Learnt,
   listed-span-reads.Asked,
   listed-span-reads.Learnt,
+  later-right-reads.Asked,
+  later-right-reads.Learnt,
   judge-sector-reads.Asked,
   judge-sector-reads.Learnt,
   judge-even-below t,
@@ -383,6 +497,8 @@ judge-odd-returns : (t : ℕ) → judge-odd-lts.Need-returns (
   done-reads.Learnt,
   listed-span-reads.Asked,
   listed-span-reads.Learnt,
+  later-right-reads.Asked,
+  later-right-reads.Learnt,
   judge-sector-reads.Asked,
   judge-sector-reads.Learnt,
   judge-even-below t,
@@ -397,6 +513,8 @@ judge-odd-add-listed-span : (t : ℕ) → judge-odd-lts.Need-add-listed-span (
   done-reads.Learnt,
   listed-span-reads.Asked,
   listed-span-reads.Learnt,
+  later-right-reads.Asked,
+  later-right-reads.Learnt,
   judge-sector-reads.Asked,
   judge-sector-reads.Learnt,
   judge-even-below t,
@@ -409,6 +527,8 @@ judge-odd-listed-span-requires : (t : ℕ) → judge-odd-lts.Need-listed-span-re
   done-reads.Learnt,
   listed-span-reads.Asked,
   listed-span-reads.Learnt,
+  later-right-reads.Asked,
+  later-right-reads.Learnt,
   judge-sector-reads.Asked,
   judge-sector-reads.Learnt,
   judge-even-below t,
@@ -419,20 +539,90 @@ judge-odd-listed-span-requires t c κs =
     let f = front (a .p) (a .track .now) (a .marks .now) (a .starts .now) (getD (a .starts .now) 1 (a .p + length (a .track .now)) - a .p) (c .before .before .before .before .pre .1) refl (omega (arith, c .if1 .left)) in
     omega (arith, f .opening)
 
+judge-odd-sub-later-right : (t : ℕ) → judge-odd-lts.Need-sub-later-right (
+  done-reads.Asked,
+  done-reads.Learnt,
+  listed-span-reads.Asked,
+  listed-span-reads.Learnt,
+  later-right-reads.Asked,
+  later-right-reads.Learnt,
+  judge-sector-reads.Asked,
+  judge-sector-reads.Learnt,
+  judge-even-below t,
+  judge-even.Post,
+) (judge-odd-at t) judge-odd.Post
+judge-odd-sub-later-right t c =
+    let a = c .before .before .before .before .before .args in
+    let s = c .listed-span in
+    let f = front (a .p) (a .track .now) (a .marks .now) (a .starts .now) (s .result .length) (c .before .before .before .before .before .pre .1) (s .ensures .0) (omega (arith, c .before .if1 .left)) in
+    omega (arith, f .opening, f .fits)
+
+judge-odd-part-later-right-start : (t : ℕ) → judge-odd-lts.Need-part-later-right-start (
+  done-reads.Asked,
+  done-reads.Learnt,
+  listed-span-reads.Asked,
+  listed-span-reads.Learnt,
+  later-right-reads.Asked,
+  later-right-reads.Learnt,
+  judge-sector-reads.Asked,
+  judge-sector-reads.Learnt,
+  judge-even-below t,
+  judge-even.Post,
+) (judge-odd-at t) judge-odd.Post
+judge-odd-part-later-right-start t c =
+    let a = c .before .before .before .before .before .args in
+    let s = c .listed-span in
+    let f = front (a .p) (a .track .now) (a .marks .now) (a .starts .now) (s .result .length) (c .before .before .before .before .before .pre .1) (s .ensures .0) (omega (arith, c .before .if1 .left)) in
+    omega (arith, f .opening, f .fits)
+
+judge-odd-part-later-right-end : (t : ℕ) → judge-odd-lts.Need-part-later-right-end (
+  done-reads.Asked,
+  done-reads.Learnt,
+  listed-span-reads.Asked,
+  listed-span-reads.Learnt,
+  later-right-reads.Asked,
+  later-right-reads.Learnt,
+  judge-sector-reads.Asked,
+  judge-sector-reads.Learnt,
+  judge-even-below t,
+  judge-even.Post,
+) (judge-odd-at t) judge-odd.Post
+judge-odd-part-later-right-end t c =
+    let a = c .before .before .before .before .before .args in
+    let s = c .listed-span in
+    let f = front (a .p) (a .track .now) (a .marks .now) (a .starts .now) (s .result .length) (c .before .before .before .before .before .pre .1) (s .ensures .0) (omega (arith, c .before .if1 .left)) in
+    omega (arith, f .opening, f .fits)
+
+judge-odd-later-right-requires : (t : ℕ) → judge-odd-lts.Need-later-right-requires (
+  done-reads.Asked,
+  done-reads.Learnt,
+  listed-span-reads.Asked,
+  listed-span-reads.Learnt,
+  later-right-reads.Asked,
+  later-right-reads.Learnt,
+  judge-sector-reads.Asked,
+  judge-sector-reads.Learnt,
+  judge-even-below t,
+  judge-even.Post,
+) (judge-odd-at t) judge-odd.Post
+judge-odd-later-right-requires t c κs = search needs
+
 judge-odd-sub-judge-sector : (t : ℕ) → judge-odd-lts.Need-sub-judge-sector (
   done-reads.Asked,
   done-reads.Learnt,
   listed-span-reads.Asked,
   listed-span-reads.Learnt,
+  later-right-reads.Asked,
+  later-right-reads.Learnt,
   judge-sector-reads.Asked,
   judge-sector-reads.Learnt,
   judge-even-below t,
   judge-even.Post,
 ) (judge-odd-at t) judge-odd.Post
 judge-odd-sub-judge-sector t c =
-    let a = c .before .before .before .before .before .args in
-    let s = c .listed-span in
-    let f = front (a .p) (a .track .now) (a .marks .now) (a .starts .now) (s .result .length) (c .before .before .before .before .before .pre .1) (s .ensures .0) (omega (arith, c .before .if1 .left)) in
+    let a = c .before .before .before .before .before .before .before .before .args in
+    let s = c .before .before .before .listed-span in
+    let f = front (a .p) (a .track .now) (a .marks .now) (a .starts .now) (s .result .length) (c .before .before .before .before .before .before .before .before .pre .1) (s .ensures .0) (omega (arith, c .before .before .before .before .if1 .left)) in
     omega (arith, f .opening, f .fits)
 
 judge-odd-part-judge-sector-start : (t : ℕ) → judge-odd-lts.Need-part-judge-sector-start (
@@ -440,15 +630,17 @@ judge-odd-part-judge-sector-start : (t : ℕ) → judge-odd-lts.Need-part-judge-
   done-reads.Learnt,
   listed-span-reads.Asked,
   listed-span-reads.Learnt,
+  later-right-reads.Asked,
+  later-right-reads.Learnt,
   judge-sector-reads.Asked,
   judge-sector-reads.Learnt,
   judge-even-below t,
   judge-even.Post,
 ) (judge-odd-at t) judge-odd.Post
 judge-odd-part-judge-sector-start t c =
-    let a = c .before .before .before .before .before .args in
-    let s = c .listed-span in
-    let f = front (a .p) (a .track .now) (a .marks .now) (a .starts .now) (s .result .length) (c .before .before .before .before .before .pre .1) (s .ensures .0) (omega (arith, c .before .if1 .left)) in
+    let a = c .before .before .before .before .before .before .before .before .args in
+    let s = c .before .before .before .listed-span in
+    let f = front (a .p) (a .track .now) (a .marks .now) (a .starts .now) (s .result .length) (c .before .before .before .before .before .before .before .before .pre .1) (s .ensures .0) (omega (arith, c .before .before .before .before .if1 .left)) in
     omega (arith, f .opening, f .fits)
 
 judge-odd-part-judge-sector-end : (t : ℕ) → judge-odd-lts.Need-part-judge-sector-end (
@@ -456,15 +648,17 @@ judge-odd-part-judge-sector-end : (t : ℕ) → judge-odd-lts.Need-part-judge-se
   done-reads.Learnt,
   listed-span-reads.Asked,
   listed-span-reads.Learnt,
+  later-right-reads.Asked,
+  later-right-reads.Learnt,
   judge-sector-reads.Asked,
   judge-sector-reads.Learnt,
   judge-even-below t,
   judge-even.Post,
 ) (judge-odd-at t) judge-odd.Post
 judge-odd-part-judge-sector-end t c =
-    let a = c .before .before .before .before .before .args in
-    let s = c .listed-span in
-    let f = front (a .p) (a .track .now) (a .marks .now) (a .starts .now) (s .result .length) (c .before .before .before .before .before .pre .1) (s .ensures .0) (omega (arith, c .before .if1 .left)) in
+    let a = c .before .before .before .before .before .before .before .before .args in
+    let s = c .before .before .before .listed-span in
+    let f = front (a .p) (a .track .now) (a .marks .now) (a .starts .now) (s .result .length) (c .before .before .before .before .before .before .before .before .pre .1) (s .ensures .0) (omega (arith, c .before .before .before .before .if1 .left)) in
     omega (arith, f .opening, f .fits)
 
 judge-odd-judge-sector-requires : (t : ℕ) → judge-odd-lts.Need-judge-sector-requires (
@@ -472,43 +666,49 @@ judge-odd-judge-sector-requires : (t : ℕ) → judge-odd-lts.Need-judge-sector-
   done-reads.Learnt,
   listed-span-reads.Asked,
   listed-span-reads.Learnt,
+  later-right-reads.Asked,
+  later-right-reads.Learnt,
   judge-sector-reads.Asked,
   judge-sector-reads.Learnt,
   judge-even-below t,
   judge-even.Post,
 ) (judge-odd-at t) judge-odd.Post
-judge-odd-judge-sector-requires t c κs = omega (arith, c .before .before .before .before .before .before .pre .1 .within)
+judge-odd-judge-sector-requires t c κs = omega (arith, c .before .before .before .before .before .before .before .before .before .pre .1 .within)
 
 judge-odd-returns-2 : (t : ℕ) → judge-odd-lts.Need-returns-2 (
   done-reads.Asked,
   done-reads.Learnt,
   listed-span-reads.Asked,
   listed-span-reads.Learnt,
+  later-right-reads.Asked,
+  later-right-reads.Learnt,
   judge-sector-reads.Asked,
   judge-sector-reads.Learnt,
   judge-even-below t,
   judge-even.Post,
 ) (judge-odd-at t) judge-odd.Post
 judge-odd-returns-2 t c =
-    let a = c .before .before .before .before .before .before .before .before .before .args in
-    let s = c .before .before .before .before .listed-span in
-    let f = front (a .p) (a .track .now) (a .marks .now) (a .starts .now) (s .result .length) (c .before .before .before .before .before .before .before .before .before .pre .1) (s .ensures .0) (omega (arith, c .before .before .before .before .before .if1 .left)) in
-    front-refused (asHome (a .h)) 0 (asAddress (a .named)) (a .p) (s .result .length) (a .track .now) (a .marks .now) (a .starts .now) f (s .result .last) (s .ensures .1) _ (c .before .before .judge-sector .ensures) (c .if2 .taken)
+    let a = c .before .before .before .before .before .before .before .before .before .before .args in
+    let s = c .before .before .before .before .before .listed-span in
+    let f = front (a .p) (a .track .now) (a .marks .now) (a .starts .now) (s .result .length) (c .before .before .before .before .before .before .before .before .before .before .pre .1) (s .ensures .0) (omega (arith, c .before .before .before .before .before .before .if1 .left)) in
+    front-wrong (asHome (a .h)) 0 (asAddress (a .named)) (a .p) (s .result .length) (a .track .now) (a .marks .now) (a .starts .now) f (s .result .last) (s .ensures .1) (sym (c .before .before .before .later-right .ensures) ∙ not-true _ (c .before .before .if2 .taken)) _ (c .judge-sector .ensures)
 
 judge-odd-sub-judge-even : (t : ℕ) → judge-odd-lts.Need-sub-judge-even (
   done-reads.Asked,
   done-reads.Learnt,
   listed-span-reads.Asked,
   listed-span-reads.Learnt,
+  later-right-reads.Asked,
+  later-right-reads.Learnt,
   judge-sector-reads.Asked,
   judge-sector-reads.Learnt,
   judge-even-below t,
   judge-even.Post,
 ) (judge-odd-at t) judge-odd.Post
 judge-odd-sub-judge-even t c =
-    let a = c .before .before .before .before .before .before .before .before .before .args in
-    let s = c .before .before .before .before .listed-span in
-    let f = front (a .p) (a .track .now) (a .marks .now) (a .starts .now) (s .result .length) (c .before .before .before .before .before .before .before .before .before .pre .1) (s .ensures .0) (omega (arith, c .before .before .before .before .before .if1 .left)) in
+    let a = c .before .before .before .before .before .before .before .before .args in
+    let s = c .before .before .before .listed-span in
+    let f = front (a .p) (a .track .now) (a .marks .now) (a .starts .now) (s .result .length) (c .before .before .before .before .before .before .before .before .pre .1) (s .ensures .0) (omega (arith, c .before .before .before .before .if1 .left)) in
     omega (arith, f .fits)
 
 judge-odd-part-judge-even-start : (t : ℕ) → judge-odd-lts.Need-part-judge-even-start (
@@ -516,15 +716,17 @@ judge-odd-part-judge-even-start : (t : ℕ) → judge-odd-lts.Need-part-judge-ev
   done-reads.Learnt,
   listed-span-reads.Asked,
   listed-span-reads.Learnt,
+  later-right-reads.Asked,
+  later-right-reads.Learnt,
   judge-sector-reads.Asked,
   judge-sector-reads.Learnt,
   judge-even-below t,
   judge-even.Post,
 ) (judge-odd-at t) judge-odd.Post
 judge-odd-part-judge-even-start t c =
-    let a = c .before .before .before .before .before .before .before .before .before .args in
-    let s = c .before .before .before .before .listed-span in
-    let f = front (a .p) (a .track .now) (a .marks .now) (a .starts .now) (s .result .length) (c .before .before .before .before .before .before .before .before .before .pre .1) (s .ensures .0) (omega (arith, c .before .before .before .before .before .if1 .left)) in
+    let a = c .before .before .before .before .before .before .before .before .args in
+    let s = c .before .before .before .listed-span in
+    let f = front (a .p) (a .track .now) (a .marks .now) (a .starts .now) (s .result .length) (c .before .before .before .before .before .before .before .before .pre .1) (s .ensures .0) (omega (arith, c .before .before .before .before .if1 .left)) in
     omega (arith, f .fits)
 
 judge-odd-part-judge-even-end : (t : ℕ) → judge-odd-lts.Need-part-judge-even-end (
@@ -532,15 +734,17 @@ judge-odd-part-judge-even-end : (t : ℕ) → judge-odd-lts.Need-part-judge-even
   done-reads.Learnt,
   listed-span-reads.Asked,
   listed-span-reads.Learnt,
+  later-right-reads.Asked,
+  later-right-reads.Learnt,
   judge-sector-reads.Asked,
   judge-sector-reads.Learnt,
   judge-even-below t,
   judge-even.Post,
 ) (judge-odd-at t) judge-odd.Post
 judge-odd-part-judge-even-end t c =
-    let a = c .before .before .before .before .before .before .before .before .before .args in
-    let s = c .before .before .before .before .listed-span in
-    let f = front (a .p) (a .track .now) (a .marks .now) (a .starts .now) (s .result .length) (c .before .before .before .before .before .before .before .before .before .pre .1) (s .ensures .0) (omega (arith, c .before .before .before .before .before .if1 .left)) in
+    let a = c .before .before .before .before .before .before .before .before .args in
+    let s = c .before .before .before .listed-span in
+    let f = front (a .p) (a .track .now) (a .marks .now) (a .starts .now) (s .result .length) (c .before .before .before .before .before .before .before .before .pre .1) (s .ensures .0) (omega (arith, c .before .before .before .before .if1 .left)) in
     omega (arith, f .fits)
 
 judge-odd-sub-judge-even-2 : (t : ℕ) → judge-odd-lts.Need-sub-judge-even-2 (
@@ -548,63 +752,71 @@ judge-odd-sub-judge-even-2 : (t : ℕ) → judge-odd-lts.Need-sub-judge-even-2 (
   done-reads.Learnt,
   listed-span-reads.Asked,
   listed-span-reads.Learnt,
+  later-right-reads.Asked,
+  later-right-reads.Learnt,
   judge-sector-reads.Asked,
   judge-sector-reads.Learnt,
   judge-even-below t,
   judge-even.Post,
 ) (judge-odd-at t) judge-odd.Post
 judge-odd-sub-judge-even-2 t c =
-    let a = c .before .before .before .before .before .before .before .before .before .before .args in
-    let s = c .before .before .before .before .before .listed-span in
-    let f = front (a .p) (a .track .now) (a .marks .now) (a .starts .now) (s .result .length) (c .before .before .before .before .before .before .before .before .before .before .pre .1) (s .ensures .0) (omega (arith, c .before .before .before .before .before .before .if1 .left)) in
-    omega (arith, f .fits, c .before .before .before .before .before .before .before .before .before .before .pre .1 .lengths)
+    let a = c .before .before .before .before .before .before .before .before .before .args in
+    let s = c .before .before .before .before .listed-span in
+    let f = front (a .p) (a .track .now) (a .marks .now) (a .starts .now) (s .result .length) (c .before .before .before .before .before .before .before .before .before .pre .1) (s .ensures .0) (omega (arith, c .before .before .before .before .before .if1 .left)) in
+    omega (arith, f .fits, c .before .before .before .before .before .before .before .before .before .pre .1 .lengths)
 
 judge-odd-part-judge-even-start-2 : (t : ℕ) → judge-odd-lts.Need-part-judge-even-start-2 (
   done-reads.Asked,
   done-reads.Learnt,
   listed-span-reads.Asked,
   listed-span-reads.Learnt,
+  later-right-reads.Asked,
+  later-right-reads.Learnt,
   judge-sector-reads.Asked,
   judge-sector-reads.Learnt,
   judge-even-below t,
   judge-even.Post,
 ) (judge-odd-at t) judge-odd.Post
 judge-odd-part-judge-even-start-2 t c =
-    let a = c .before .before .before .before .before .before .before .before .before .before .args in
-    let s = c .before .before .before .before .before .listed-span in
-    let f = front (a .p) (a .track .now) (a .marks .now) (a .starts .now) (s .result .length) (c .before .before .before .before .before .before .before .before .before .before .pre .1) (s .ensures .0) (omega (arith, c .before .before .before .before .before .before .if1 .left)) in
-    omega (arith, f .fits, c .before .before .before .before .before .before .before .before .before .before .pre .1 .lengths)
+    let a = c .before .before .before .before .before .before .before .before .before .args in
+    let s = c .before .before .before .before .listed-span in
+    let f = front (a .p) (a .track .now) (a .marks .now) (a .starts .now) (s .result .length) (c .before .before .before .before .before .before .before .before .before .pre .1) (s .ensures .0) (omega (arith, c .before .before .before .before .before .if1 .left)) in
+    omega (arith, f .fits, c .before .before .before .before .before .before .before .before .before .pre .1 .lengths)
 
 judge-odd-part-judge-even-end-2 : (t : ℕ) → judge-odd-lts.Need-part-judge-even-end-2 (
   done-reads.Asked,
   done-reads.Learnt,
   listed-span-reads.Asked,
   listed-span-reads.Learnt,
+  later-right-reads.Asked,
+  later-right-reads.Learnt,
   judge-sector-reads.Asked,
   judge-sector-reads.Learnt,
   judge-even-below t,
   judge-even.Post,
 ) (judge-odd-at t) judge-odd.Post
 judge-odd-part-judge-even-end-2 t c =
-    let a = c .before .before .before .before .before .before .before .before .before .before .args in
-    let s = c .before .before .before .before .before .listed-span in
-    let f = front (a .p) (a .track .now) (a .marks .now) (a .starts .now) (s .result .length) (c .before .before .before .before .before .before .before .before .before .before .pre .1) (s .ensures .0) (omega (arith, c .before .before .before .before .before .before .if1 .left)) in
-    omega (arith, f .fits, c .before .before .before .before .before .before .before .before .before .before .pre .1 .lengths)
+    let a = c .before .before .before .before .before .before .before .before .before .args in
+    let s = c .before .before .before .before .listed-span in
+    let f = front (a .p) (a .track .now) (a .marks .now) (a .starts .now) (s .result .length) (c .before .before .before .before .before .before .before .before .before .pre .1) (s .ensures .0) (omega (arith, c .before .before .before .before .before .if1 .left)) in
+    omega (arith, f .fits, c .before .before .before .before .before .before .before .before .before .pre .1 .lengths)
 
 judge-odd-sub-judge-even-3 : (t : ℕ) → judge-odd-lts.Need-sub-judge-even-3 (
   done-reads.Asked,
   done-reads.Learnt,
   listed-span-reads.Asked,
   listed-span-reads.Learnt,
+  later-right-reads.Asked,
+  later-right-reads.Learnt,
   judge-sector-reads.Asked,
   judge-sector-reads.Learnt,
   judge-even-below t,
   judge-even.Post,
 ) (judge-odd-at t) judge-odd.Post
 judge-odd-sub-judge-even-3 t c =
-    let a = c .before .before .before .before .before .before .before .before .before .before .before .args in
-    let s = c .before .before .before .before .before .before .listed-span in
-    let f = front (a .p) (a .track .now) (a .marks .now) (a .starts .now) (s .result .length) (c .before .before .before .before .before .before .before .before .before .before .before .pre .1) (s .ensures .0) (omega (arith, c .before .before .before .before .before .before .before .if1 .left)) in
+    let a = c .before .before .before .before .before .before .before .before .before .before .args in
+    let s = c .before .before .before .before .before .listed-span in
+    let f = front (a .p) (a .track .now) (a .marks .now) (a .starts .now) (s .result .length) (c .before .before .before .before .before .before .before .before .before .before .pre .1) (s .ensures .0) (omega (arith, c .before .before .before .before .before .before .if1 .left)) in
     omega (arith, f .listed)
 
 judge-odd-part-judge-even-start-3 : (t : ℕ) → judge-odd-lts.Need-part-judge-even-start-3 (
@@ -612,15 +824,17 @@ judge-odd-part-judge-even-start-3 : (t : ℕ) → judge-odd-lts.Need-part-judge-
   done-reads.Learnt,
   listed-span-reads.Asked,
   listed-span-reads.Learnt,
+  later-right-reads.Asked,
+  later-right-reads.Learnt,
   judge-sector-reads.Asked,
   judge-sector-reads.Learnt,
   judge-even-below t,
   judge-even.Post,
 ) (judge-odd-at t) judge-odd.Post
 judge-odd-part-judge-even-start-3 t c =
-    let a = c .before .before .before .before .before .before .before .before .before .before .before .args in
-    let s = c .before .before .before .before .before .before .listed-span in
-    let f = front (a .p) (a .track .now) (a .marks .now) (a .starts .now) (s .result .length) (c .before .before .before .before .before .before .before .before .before .before .before .pre .1) (s .ensures .0) (omega (arith, c .before .before .before .before .before .before .before .if1 .left)) in
+    let a = c .before .before .before .before .before .before .before .before .before .before .args in
+    let s = c .before .before .before .before .before .listed-span in
+    let f = front (a .p) (a .track .now) (a .marks .now) (a .starts .now) (s .result .length) (c .before .before .before .before .before .before .before .before .before .before .pre .1) (s .ensures .0) (omega (arith, c .before .before .before .before .before .before .if1 .left)) in
     omega (arith, f .listed)
 
 judge-odd-part-judge-even-end-3 : (t : ℕ) → judge-odd-lts.Need-part-judge-even-end-3 (
@@ -628,15 +842,17 @@ judge-odd-part-judge-even-end-3 : (t : ℕ) → judge-odd-lts.Need-part-judge-ev
   done-reads.Learnt,
   listed-span-reads.Asked,
   listed-span-reads.Learnt,
+  later-right-reads.Asked,
+  later-right-reads.Learnt,
   judge-sector-reads.Asked,
   judge-sector-reads.Learnt,
   judge-even-below t,
   judge-even.Post,
 ) (judge-odd-at t) judge-odd.Post
 judge-odd-part-judge-even-end-3 t c =
-    let a = c .before .before .before .before .before .before .before .before .before .before .before .args in
-    let s = c .before .before .before .before .before .before .listed-span in
-    let f = front (a .p) (a .track .now) (a .marks .now) (a .starts .now) (s .result .length) (c .before .before .before .before .before .before .before .before .before .before .before .pre .1) (s .ensures .0) (omega (arith, c .before .before .before .before .before .before .before .if1 .left)) in
+    let a = c .before .before .before .before .before .before .before .before .before .before .args in
+    let s = c .before .before .before .before .before .listed-span in
+    let f = front (a .p) (a .track .now) (a .marks .now) (a .starts .now) (s .result .length) (c .before .before .before .before .before .before .before .before .before .before .pre .1) (s .ensures .0) (omega (arith, c .before .before .before .before .before .before .if1 .left)) in
     omega (arith, f .listed)
 
 judge-odd-add-judge-even : (t : ℕ) → judge-odd-lts.Need-add-judge-even (
@@ -644,31 +860,35 @@ judge-odd-add-judge-even : (t : ℕ) → judge-odd-lts.Need-add-judge-even (
   done-reads.Learnt,
   listed-span-reads.Asked,
   listed-span-reads.Learnt,
+  later-right-reads.Asked,
+  later-right-reads.Learnt,
   judge-sector-reads.Asked,
   judge-sector-reads.Learnt,
   judge-even-below t,
   judge-even.Post,
 ) (judge-odd-at t) judge-odd.Post
 judge-odd-add-judge-even t c =
-    let a = c .before .before .before .before .before .before .before .before .before .before .before .before .args in
-    let s = c .before .before .before .before .before .before .before .listed-span in
-    let f = front (a .p) (a .track .now) (a .marks .now) (a .starts .now) (s .result .length) (c .before .before .before .before .before .before .before .before .before .before .before .before .pre .1) (s .ensures .0) (omega (arith, c .before .before .before .before .before .before .before .before .if1 .left)) in
-    omega (arith, f .fits, c .before .before .before .before .before .before .before .before .before .before .before .before .pre .1 .within)
+    let a = c .before .before .before .before .before .before .before .before .before .before .before .args in
+    let s = c .before .before .before .before .before .before .listed-span in
+    let f = front (a .p) (a .track .now) (a .marks .now) (a .starts .now) (s .result .length) (c .before .before .before .before .before .before .before .before .before .before .before .pre .1) (s .ensures .0) (omega (arith, c .before .before .before .before .before .before .before .if1 .left)) in
+    omega (arith, f .fits, c .before .before .before .before .before .before .before .before .before .before .before .pre .1 .within)
 
 judge-odd-judge-even-requires : (t : ℕ) → judge-odd-lts.Need-judge-even-requires (
   done-reads.Asked,
   done-reads.Learnt,
   listed-span-reads.Asked,
   listed-span-reads.Learnt,
+  later-right-reads.Asked,
+  later-right-reads.Learnt,
   judge-sector-reads.Asked,
   judge-sector-reads.Learnt,
   judge-even-below t,
   judge-even.Post,
 ) (judge-odd-at t) judge-odd.Post
 judge-odd-judge-even-requires t c κs =
-    let a = c .before .before .before .before .before .before .before .before .before .before .before .before .args in
-    let s = c .before .before .before .before .before .before .before .listed-span in
-    let f = front (a .p) (a .track .now) (a .marks .now) (a .starts .now) (s .result .length) (c .before .before .before .before .before .before .before .before .before .before .before .before .pre .1) (s .ensures .0) (omega (arith, c .before .before .before .before .before .before .before .before .if1 .left)) in
+    let a = c .before .before .before .before .before .before .before .before .before .before .before .args in
+    let s = c .before .before .before .before .before .before .listed-span in
+    let f = front (a .p) (a .track .now) (a .marks .now) (a .starts .now) (s .result .length) (c .before .before .before .before .before .before .before .before .before .before .before .pre .1) (s .ensures .0) (omega (arith, c .before .before .before .before .before .before .before .if1 .left)) in
     (omega (arith, f .opening, f .fits, length-drop (s .result .length) (a .track .now), ap length (part-all (s .result .length) (a .track .now))), rest-next (a .p) (s .result .length) (a .track .now) (a .marks .now) (a .starts .now) f)
 
 judge-odd-returns-3 : (t : ℕ) → judge-odd-lts.Need-returns-3 (
@@ -676,16 +896,18 @@ judge-odd-returns-3 : (t : ℕ) → judge-odd-lts.Need-returns-3 (
   done-reads.Learnt,
   listed-span-reads.Asked,
   listed-span-reads.Learnt,
+  later-right-reads.Asked,
+  later-right-reads.Learnt,
   judge-sector-reads.Asked,
   judge-sector-reads.Learnt,
   judge-even-below t,
   judge-even.Post,
 ) (judge-odd-at t) judge-odd.Post
 judge-odd-returns-3 t c =
-    let a = c .before .before .before .before .before .before .before .before .before .before .before .before .before .args in
-    let s = c .before .before .before .before .before .before .before .before .listed-span in
-    let f = front (a .p) (a .track .now) (a .marks .now) (a .starts .now) (s .result .length) (c .before .before .before .before .before .before .before .before .before .before .before .before .before .pre .1) (s .ensures .0) (omega (arith, c .before .before .before .before .before .before .before .before .before .if1 .left)) in
-    c .judge-even .ensures ∙ front-good (asHome (a .h)) 0 (asAddress (a .named)) (a .p) (s .result .length) (a .track .now) (a .marks .now) (a .starts .now) f (s .result .last) (s .ensures .1) _ (c .before .before .before .before .before .before .judge-sector .ensures) (c .before .before .before .before .if2 .left)
+    let a = c .before .before .before .before .before .before .before .before .before .before .before .before .args in
+    let s = c .before .before .before .before .before .before .before .listed-span in
+    let f = front (a .p) (a .track .now) (a .marks .now) (a .starts .now) (s .result .length) (c .before .before .before .before .before .before .before .before .before .before .before .before .pre .1) (s .ensures .0) (omega (arith, c .before .before .before .before .before .before .before .before .if1 .left)) in
+    c .judge-even .ensures ∙ front-right (asHome (a .h)) 0 (asAddress (a .named)) (a .p) (s .result .length) (a .track .now) (a .marks .now) (a .starts .now) f (s .result .last) (s .ensures .1) (sym (c .before .before .before .before .before .later-right .ensures) ∙ not-false _ (c .before .before .before .before .if2 .left))
 
 pub +judge-even+judge-odd-spec : {M : Type 1} → statement M
 +judge-even+judge-odd-spec = close μ-judge-even μ-judge-odd (λ t. judge-even-lts.spec (
@@ -693,6 +915,8 @@ pub +judge-even+judge-odd-spec : {M : Type 1} → statement M
   done-reads.Learnt,
   listed-span-reads.Asked,
   listed-span-reads.Learnt,
+  later-right-reads.Asked,
+  later-right-reads.Learnt,
   judge-sector-reads.Asked,
   judge-sector-reads.Learnt,
   judge-odd-below t,
@@ -704,6 +928,10 @@ pub +judge-even+judge-odd-spec : {M : Type 1} → statement M
     (judge-even-returns t)
     (judge-even-add-listed-span t)
     (judge-even-listed-span-requires t)
+    (judge-even-sub-later-right t)
+    (judge-even-part-later-right-start t)
+    (judge-even-part-later-right-end t)
+    (judge-even-later-right-requires t)
     (judge-even-sub-judge-sector t)
     (judge-even-part-judge-sector-start t)
     (judge-even-part-judge-sector-end t)
@@ -726,6 +954,8 @@ pub +judge-even+judge-odd-spec : {M : Type 1} → statement M
       done-reads.Learnt,
       listed-span-reads.Asked,
       listed-span-reads.Learnt,
+      later-right-reads.Asked,
+      later-right-reads.Learnt,
       judge-sector-reads.Asked,
       judge-sector-reads.Learnt,
       judge-even-below t,
@@ -737,6 +967,10 @@ pub +judge-even+judge-odd-spec : {M : Type 1} → statement M
     (judge-odd-returns t)
     (judge-odd-add-listed-span t)
     (judge-odd-listed-span-requires t)
+    (judge-odd-sub-later-right t)
+    (judge-odd-part-later-right-start t)
+    (judge-odd-part-later-right-end t)
+    (judge-odd-later-right-requires t)
     (judge-odd-sub-judge-sector t)
     (judge-odd-part-judge-sector-start t)
     (judge-odd-part-judge-sector-end t)
