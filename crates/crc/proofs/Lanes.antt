@@ -85,7 +85,7 @@ unfolding lanes pair
 lanes-none = sym remainder-none
 
 -- Eight bytes as one number stand side by side.
-word-of : (a b c d e f g h : ℕ) → wordOf a b c d e f g h ≡ word (a ∷ b ∷ c ∷ d ∷ e ∷ f ∷ g ∷ h ∷ [])
+pub word-of : (a b c d e f g h : ℕ) → wordOf a b c d e f g h ≡ word (a ∷ b ∷ c ∷ d ∷ e ∷ f ∷ g ∷ h ∷ [])
 unfolding word
 word-of a b c d e f g h = omega arith
 

@@ -14,6 +14,7 @@ pub mod Before
 pub mod Parts
 pub mod Cut
 pub mod Lanes
+pub mod Front
 pub mod Agreement
 pub mod Checked
 pub mod Burst

@@ -1,9 +1,10 @@
 // The remainder of the bytes, eight at a time: side by side in one number, they are added by one exclusive or.
 ghost use mathlib.Core.Path.{_≡_};
-ghost use Prim.Native.Nat.{_+_, _≤_};
-ghost use lib.ListN.{length};
+ghost use mathlib.Core.List.{_++_};
+ghost use Prim.Native.Nat.{_+_, _-_, _≤_, _<_};
+ghost use lib.ListN.{length, take, replicate};
 ghost use Rattle.crc.specs.Check.{coefficients, remainder};
-ghost use Rattle.crc.specs.Word.{wordOf, wordAt, lanes};
+ghost use Rattle.crc.specs.Word.{word, wordOf, wordAt, lanes};
 use crate::from_be_bytes;
 use crate::remainder_of;
 
@@ -42,15 +43,27 @@ fn lanes_of(w: u64) -> u16
     from_be_bytes((one % 256) as u8, (one / 256 % 256) as u8)
 }
 
-// The remainder of the bytes, from the last one back and eight at a time; to the lanes of these the remainder of the bytes left in front is added.
+// The first n bytes behind zeros, eight in all, as one number: the first eight bytes, moved up until only the first n of them are left.
+fn front_word(bytes: &[u8], n: usize) -> u64
+    requires { ⌜ (n < 8) × (8 ≤ length (now bytes)) ⌝ }
+    ensures { λ r. ⌜ r ≡ word (replicate (8 - n) 0 ++ take n (now (bytes .entry))) ⌝ }
+{
+    let others = 56 - 8 * n;
+    word_at(bytes, 0) << 8 << others
+}
+
+// The remainder of the bytes, eight at a time from the last one back; those left in front are added as the last word, and fewer than eight two by two.
 pub(crate) fn remainder_wide(bytes: &[u8]) -> u16
     ensures { λ r. ⌜ r ≡ remainder 0 (coefficients (now (bytes .entry))) ⌝ }
 {
+    if bytes.len() < 8 {
+        return remainder_of(bytes);
+    }
     let mut words: u64 = 0;
     let mut remaining = bytes.len();
     while remaining >= 8 {
         remaining -= 8;
         words ^= word_at(bytes, remaining);
     }
-    remainder_of(&bytes[..remaining]) ^ lanes_of(words)
+    lanes_of(words ^ front_word(bytes, remaining))
 }
