@@ -1,6 +1,6 @@
 // The candidates of a track, sound or damaged, one by one from left to right.
 ghost use mathlib.Core.Path.{_≡_};
-ghost use Prim.Native.Nat.{_+_};
+ghost use Prim.Native.Nat.{_+_, _≤_};
 ghost use lib.ListN.{take, drop};
 ghost use Rattle.format.specs.Lent.{cells};
 ghost use Rattle.format.specs.Sector.{openingLength};
@@ -104,18 +104,40 @@ fn stands_at(track: &[u8], marks: &[u8], home: search::Found, p: usize) -> Stand
     Standing::Not
 }
 
+// The first place at p or later at which a count may open: a marked opening, or sector 0's place behind home; no candidate stands before it.
+fn next_place(track: &[u8], marks: &[u8], home: search::Found, p: usize) -> usize
+    ensures { λ r. ⌜ (p ≤ r) × (candidatesFrom (judgedPlace home) p (drop p (cells (now (track .entry)) (now (marks .entry)))) ≡ candidatesFrom (judgedPlace home) r (drop r (cells (now (track .entry)) (now (marks .entry))))) ⌝ }
+{
+    let q = search::next_opening(track, marks, p);
+    match home {
+        search::Found::At(h) => {
+            if q <= HOME_TO_COUNT {
+                return q;
+            }
+            if q - HOME_TO_COUNT <= h {
+                return q;
+            }
+            if h + HOME_TO_COUNT < p {
+                return q;
+            }
+            h + HOME_TO_COUNT
+        }
+        search::Found::Nowhere => q,
+    }
+}
+
 // The first candidate at place `from` or later, if there is one.
 pub fn next_candidate(track: &[u8], marks: &[u8], home: search::Found, from: usize) -> Standing
     ensures { λ r. ⌜ standing (now (track .entry)) r ≡ take 1 (candidatesFrom (judgedPlace home) from (drop from (cells (now (track .entry)) (now (marks .entry))))) ⌝ }
 {
     let n = search::cell_count(track, marks);
-    let mut p = from;
+    let mut p = next_place(track, marks, home, from);
     while p < n {
         match stands_at(track, marks, home, p) {
             Standing::Stands(x) => return Standing::Stands(x),
             Standing::Not => {}
         }
-        p += 1;
+        p = next_place(track, marks, home, p + 1);
     }
     Standing::Not
 }

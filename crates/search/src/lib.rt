@@ -19,6 +19,10 @@ use format::layout::PLAIN;
 use format::layout::PLAIN_OPENING;
 use format::layout::SHORTEST;
 
+pub mod opening;
+
+pub use opening::next_opening;
+
 // Whether L is in range, 3,815 to 4,002.
 pub fn length_right(l: usize) -> bool
     ensures { λ r. ⌜ r ≡ lengthRight l ⌝ }

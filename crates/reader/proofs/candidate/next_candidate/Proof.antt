@@ -21,8 +21,11 @@ abbrev μ-loop : tie.MeasureT-loop
 cell-count-requires : tie.Need-cell-count-requires Inv-loop μ-loop
 cell-count-requires c κs = search needs
 
+next-place-requires : tie.Need-next-place-requires Inv-loop μ-loop
+next-place-requires c κs = search needs
+
 loop-holds : tie.Need-loop-holds Inv-loop μ-loop
-loop-holds c = (c .cell-count .ensures .0, refl)
+loop-holds c = (c .before .cell-count .ensures .0, c .next-place .ensures .1)
 
 stands-at-requires : tie.Need-stands-at-requires Inv-loop μ-loop
 stands-at-requires c κs = search needs
@@ -32,7 +35,7 @@ enum-known-x c = search needs
 
 returns : tie.Need-returns Inv-loop μ-loop
 returns c =
-    let a = c .before .before .before .before .before .before .before .before .before .args in
+    let a = c .before .before .before .before .before .before .before .before .before .before .args in
     let x = c .before .before .before .before .before .loop in
     let h = judgedPlace (a .home) in
     let d = cells (a .track .now) (a .marks .now) in
@@ -41,23 +44,26 @@ returns c =
 enum-told : tie.Need-enum-told Inv-loop μ-loop
 enum-told c = search needs
 
-add-p : tie.Need-add-p Inv-loop μ-loop
-add-p c = omega arith
+add-next-place : tie.Need-add-next-place Inv-loop μ-loop
+add-next-place c = omega arith
+
+next-place-requires-2 : tie.Need-next-place-requires-2 Inv-loop μ-loop
+next-place-requires-2 c κs = search needs
 
 loop-less : tie.Need-loop-less Inv-loop μ-loop
-loop-less c = omega arith
+loop-less c = omega (arith, c .next-place2 .ensures .0)
 
 loop-again : tie.Need-loop-again Inv-loop μ-loop
 loop-again c =
-    let a = c .before .before .before .before .before .before .before .before .args in
-    let x = c .before .before .before .before .loop in
+    let a = c .before .before .before .before .before .before .before .before .before .before .args in
+    let x = c .before .before .before .before .before .loop in
     let h = judgedPlace (a .home) in
     let d = cells (a .track .now) (a .marks .now) in
-    (x .inv .0, x .inv .1 ∙ candidates-later h (x .p) d (omega arith) (rw (c .enum-told .given .1) at (c .before .before .stands-at .ensures)))
+    (x .inv .0, x .inv .1 ∙ candidates-later h (x .p) d (omega arith) (rw (c .before .enum-told .given .1) at (c .before .before .before .stands-at .ensures)) ∙ c .next-place2 .ensures .1)
 
 returns-2 : tie.Need-returns-2 Inv-loop μ-loop
 returns-2 c =
-    let a = c .before .before .before .before .before .args in
+    let a = c .before .before .before .before .before .before .args in
     let x = c .before .loop in
     let h = judgedPlace (a .home) in
     let d = cells (a .track .now) (a .marks .now) in
@@ -70,12 +76,14 @@ next-candidate-spec =
     Inv-loop
     μ-loop
     cell-count-requires
+    next-place-requires
     loop-holds
     stands-at-requires
     enum-known-x
     returns
     enum-told
-    add-p
+    add-next-place
+    next-place-requires-2
     loop-less
     loop-again
     returns-2)
