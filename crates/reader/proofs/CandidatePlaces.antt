@@ -1,5 +1,5 @@
 -- Laws of the places that the search for candidates passes: no count opens there.
-use mathlib.Core.Path.{_≡_, refl, ap, _∙_}
+use mathlib.Core.Path.{_≡_, refl, sym, ap, _∙_}
 use Prim.Native.Nat.{ℕ, zero, suc, _+_, _-_, _≤_, _<_}
 use native.Mathlib.Omega.{arith}
 use mathlib.Core.Bool.{false}
@@ -10,8 +10,9 @@ use Rattle.format.specs.Answer.{Answer}
 use Rattle.format.specs.Judged.{Judged, good, refused}
 use Rattle.format.specs.Opening.{opens}
 use Rattle.format.specs.Span.{beforeOpening}
-use Rattle.format.specs.Home.{firstCountPlace}
+use Rattle.format.specs.Home.{findHome, firstCountPlace}
 use Rattle.format.specs.Candidate.{firstOpensAt, standsAt, candidatesFrom}
+use Rattle.format.proofs.Track.HomeLocal.{found-window}
 use Rattle.search.proofs.Openings.{Closed, closed-tail, closed-before}
 use Rattle.reader.proofs.CandidateParts.{first-elsewhere}
 use Rattle.reader.proofs.CandidateNext.{candidatesAt}
@@ -59,6 +60,10 @@ first-nowhere a p r s c l u = refl
 first-outside : (h p r : ℕ) → (p ≤ firstCountPlace h → firstCountPlace h < r → ⊥) → FirstElsewhere (good h) p r
 first-outside h p r n s c l u = first-elsewhere h s c (λ e. n (omega arith) (omega arith))
 
+found-by : (c : List ℕ) (h : ℕ) → findHome c ≡ good h → h ≤ 37
+unfolding findHome
+found-by c h e = omega (arith, found-window 15 23 h c e .1)
+
 -- The first place at p or later of the cells c at which a marked opening stands is q.
 module _ (p q : ℕ) (c : List ℕ) (so : q ≡ p + length (beforeOpening (drop p c))) where
   -- No count opens before it without home,
@@ -74,3 +79,19 @@ module _ (p q : ℕ) (c : List ℕ) (so : q ≡ p + length (beforeOpening (drop 
       → (p ≤ firstCountPlace h) × (candidatesAt (good h) p c ≡ candidatesAt (good h) (firstCountPlace h) c)
   place-first h l u =
       (l, places-past (good h) p (firstCountPlace h) c l (omega arith) (first-outside h p (firstCountPlace h) (λ i k. omega arith)))
+
+-- Behind sector 0's place the candidates do not depend on home.
+elsewhere-same : (h j : Judged ℕ) (p : ℕ) (c : List ℕ) → ((s : ℕ) (d : List ℕ) → p ≤ s → firstOpensAt h s d ≡ firstOpensAt j s d) → candidatesFrom h p c ≡ candidatesFrom j p c
+unfolding candidatesFrom standsAt
+elsewhere-same h j p [] f = refl
+elsewhere-same h j p (x ∷ c) f = rw (f p (x ∷ c) (omega arith), elsewhere-same h j (suc p) c (λ s d l. f s d (omega arith)))
+
+-- Behind the last place of sector 0's count the cells c have the candidates of a track without home.
+pub home-behind : (p : ℕ) (c : List ℕ) (a : Answer) → 62 < p → candidatesAt (refused a) p c ≡ candidatesAt (findHome c) p c
+home-behind p c a l = elsewhere-same (refused a) (findHome c) p (drop p c) (λ s d k. sym (passed (findHome c) refl s d k))
+  where
+    passed : (j : Judged ℕ) → findHome c ≡ j → (s : ℕ) (d : List ℕ) → p ≤ s → firstOpensAt j s d ≡ firstOpensAt (refused a) s d
+    passed (refused b) e s d k = first-nowhere b p (suc s) s d k (omega arith) ∙ sym (first-nowhere a p (suc s) s d k (omega arith))
+    passed (good h) e s d k =
+        first-outside h p (suc s) (λ i u. omega (arith, found-by c h e)) s d k (omega arith)
+        ∙ sym (first-nowhere a p (suc s) s d k (omega arith))

@@ -1,5 +1,5 @@
 -- Laws of a step of Walk.
-use mathlib.Core.Path.{_≡_, refl, ap, _∙_}
+use mathlib.Core.Path.{_≡_, refl, sym, ap, _∙_}
 use Prim.Native.Nat.{ℕ, zero, suc, _+_}
 use native.Mathlib.Omega.{arith}
 use mathlib.Core.Bool.{true, false}
@@ -28,22 +28,27 @@ next-passed h (suc k) q p (y ∷ c) e =
     (λ s. rw (s, lt-leb p q (omega arith)) r)
     (λ s. rw s r)
 
--- The step of a reader that has come to place p of a pair, where home opens by h.
-module _ (t m : List ℕ) (h : Judged ℕ) (p : ℕ) (f : h ≡ findHome (cells t m)) where
-  step-at : lentForReading t m ≡ true → step p t m ≡ nextFrom p (candidatesAt h p (cells t m))
-  unfolding step candidates
-  step-at l = rw (l, f) (next-passed (findHome (cells t m)) p 0 p (cells t m) (omega arith))
+-- The candidates from place p on of the cells c are those by the place h of home.
+module _ (c : List ℕ) (h : Judged ℕ) (p : ℕ) (f : candidatesAt h p c ≡ candidatesAt (findHome c) p c) where
+  next-at : nextFrom p (candidates c) ≡ nextFrom p (candidatesAt h p c)
+  unfolding candidates
+  next-at = next-passed (findHome c) p 0 p c (omega arith) ∙ ap (nextFrom p) (sym f)
 
-  -- It comes to the first candidate from there on,
-  pub step-good : (x : Candidate) → lentForReading t m ≡ true → x ∷ [] ≡ take 1 (candidatesAt h p (cells t m)) → step p t m ≡ good (visited x)
-  step-good x l e =
-      let r = candidates-first h p (cells t m) x e in
-      step-at l ∙ ap (nextFrom p) (r .2) ∙ next-here p x (candidatesAt h (x .place + 1) (cells t m)) (r .0)
+  -- A step comes to the first of them,
+  pub next-good : (x : Candidate) → x ∷ [] ≡ take 1 (candidatesAt h p c) → nextFrom p (candidates c) ≡ good (visited x)
+  next-good x e =
+      let r = candidates-first h p c x e in
+      next-at ∙ ap (nextFrom p) (r .2) ∙ next-here p x (candidatesAt h (x .place + 1) c) (r .0)
 
   -- or there is none left.
-  pub step-none : lentForReading t m ≡ true → [] ≡ take 1 (candidatesAt h p (cells t m)) → step p t m ≡ refused sectorMissing
+  pub next-none : [] ≡ take 1 (candidatesAt h p c) → nextFrom p (candidates c) ≡ refused sectorMissing
   unfolding nextFrom
-  step-none l e = step-at l ∙ ap (nextFrom p) (none-first (candidatesAt h p (cells t m)) e)
+  next-none e = next-at ∙ ap (nextFrom p) (none-first (candidatesAt h p c) e)
+
+-- The step over a pair that is lent within the rule is the step of its cells.
+pub step-lent : (p : ℕ) (t m : List ℕ) → lentForReading t m ≡ true → step p t m ≡ nextFrom p (candidates (cells t m))
+unfolding step
+step-lent p t m l = rw l
 
 -- Over any other pair it answers 1.
 pub step-wrong : (p : ℕ) (t m : List ℕ) → lentForReading t m ≡ false → step p t m ≡ refused lentWrong

@@ -15,3 +15,4 @@ pub use pair::pair_find_part;
 pub use walk::Visit;
 pub use walk::Visited;
 pub use walk::step_at;
+pub use walk::step_lent;

@@ -1,10 +1,20 @@
 // Walk: from one candidate of any S to the next, left to right.
 ghost use mathlib.Core.Path.{_≡_};
-ghost use Rattle.format.specs.Walk.{step};
+ghost use lib.ListN.{drop};
+ghost use Rattle.format.specs.Lent.{cells};
+ghost use Rattle.format.specs.Home.{findHome};
+ghost use Rattle.format.specs.Candidate.{candidatesFrom, candidates};
+ghost use Rattle.format.specs.Walk.{nextFrom, step};
+ghost use Rattle.search.specs.Place.{judgedPlace};
 ghost use Rattle.reader.specs.Finding.{judgedVisit};
 use crate::candidate::Standing;
 use crate::candidate::next_candidate;
 use crate::candidate::rest_of;
+use format::layout::HOME_LAST;
+use format::layout::HOME_TO_COUNT;
+
+// The last place at which sector 0's count opens.
+const LAST_FIRST_COUNT: usize = HOME_LAST + HOME_TO_COUNT;
 
 // What a step gives: the place of the candidate's opening, its flag, S, KL and DL.
 pub struct Visited {
@@ -21,25 +31,42 @@ pub enum Visit {
     Refused(format::Answer),
 }
 
-// The step of a reader that has come to place `from`: the first candidate there or later, 12 with none left.
+// Home's place, looked for only where sector 0's count behind it can open at place `from` or later.
+fn home_ahead(track: &[u8], marks: &[u8], from: usize) -> search::Found
+    ensures { λ r. ⌜ candidatesFrom (judgedPlace r) from (drop from (cells (now (track .entry)) (now (marks .entry)))) ≡ candidatesFrom (findHome (cells (now (track .entry)) (now (marks .entry)))) from (drop from (cells (now (track .entry)) (now (marks .entry)))) ⌝ }
+{
+    if from > LAST_FIRST_COUNT {
+        return search::Found::Nowhere;
+    }
+    search::find_home(track, marks)
+}
+
+// The step of a reader over a pair that is lent within the rule: the first candidate at place `from` or later, 12 with none left.
+pub fn step_lent(track: &[u8], marks: &[u8], from: usize) -> Visit
+    ensures { λ r. ⌜ judgedVisit r ≡ nextFrom from (candidates (cells (now (track .entry)) (now (marks .entry)))) ⌝ }
+{
+    let home = home_ahead(track, marks, from);
+    match next_candidate(track, marks, home, from) {
+        Standing::Stands(x) => {
+            let r = rest_of(track, x);
+            Visit::At(Visited {
+                place: x.place,
+                flag: sector::byte_at(r, 0),
+                number: sector::byte_at(r, 5),
+                key_length: sector::key_length(r),
+                data_length: sector::data_length(r),
+            })
+        }
+        Standing::Not => Visit::Refused(format::sector_missing()),
+    }
+}
+
+// The step of a reader that has come to place `from`: 1 where the pair is lent out of rule, then the first candidate there or later, 12 with none left.
 pub fn step_at(track: &[u8], marks: &[u8], from: usize) -> Visit
     ensures { λ r. ⌜ judgedVisit r ≡ step from (now (track .entry)) (now (marks .entry)) ⌝ }
 {
     if search::lent_for_reading(track, marks) {
-        let home = search::find_home(track, marks);
-        match next_candidate(track, marks, home, from) {
-            Standing::Stands(x) => {
-                let r = rest_of(track, x);
-                Visit::At(Visited {
-                    place: x.place,
-                    flag: sector::byte_at(r, 0),
-                    number: sector::byte_at(r, 5),
-                    key_length: sector::key_length(r),
-                    data_length: sector::data_length(r),
-                })
-            }
-            Standing::Not => Visit::Refused(format::sector_missing()),
-        }
+        step_lent(track, marks, from)
     } else {
         Visit::Refused(format::lent_wrong())
     }

@@ -17,7 +17,7 @@ use Rattle.format.proofs.Find.WalkSteps.{steps, visits, walk-visits, walk-refus
 use Rattle.reader.proofs.FindSteps.{step-wrong}
 use Rattle.reader.specs.Finding.{judgedVisit}
 use Rattle.reader.specs.declared.walk.Visit.{Visit}
-use Rattle.walking.specs.Walked.{readerAt, stepOf, afterStep, visitOf}
+use Rattle.walking.specs.Walked.{judgedStep, readerAt, stepOf, afterStep, visitOf}
 use Rattle.walking.specs.declared.Walk.{Walk}
 
 -- A reader w was stepped and gave rs: each step as its contract says, over the reader that the one before left.
@@ -25,25 +25,34 @@ abbrev pub Stepping : Walk → List Visit → Type 0
 Stepping w [] = Unit {0}
 Stepping w (r ∷ rs) = (judgedVisit r ≡ stepOf w) × ((v : Walk) × (v ≡ afterStep w) × Stepping v rs)
 
+-- What a reader made over a pair gives, and where it is after it, is the step of the definition.
+pub reader-step : (t m : RefT (List ℕ)) (p : ℕ) → stepOf (readerAt t m p) ≡ step p (t .now) (m .now)
+unfolding judgedStep step
+reader-step t m p = refl
+
+pub reader-after : (t m : RefT (List ℕ)) (p : ℕ) → afterStep (readerAt t m p) ≡ readerAt t m (placeAfter p (step p (t .now) (m .now)))
+reader-after t m p = ap (λ (j : Judged Visited). readerAt t m (placeAfter p j)) (reader-step t m p)
+
 -- What it gave are the steps of the definition, from its place on.
-pub stepping-steps : (w : Walk) (rs : List Visit) → Stepping w rs → map judgedVisit rs ≡ steps (length rs) (w .at) (w .track .now) (w .marks .now)
+pub stepping-steps : (t m : RefT (List ℕ)) (p : ℕ) (rs : List Visit) → Stepping (readerAt t m p) rs → map judgedVisit rs ≡ steps (length rs) p (t .now) (m .now)
 unfolding steps
-stepping-steps w [] s = refl
-stepping-steps w (r ∷ rs) s =
-    let q = stepping-steps (afterStep w) rs (subst (λ (v : Walk). Stepping v rs) (s .1 .1) (s .1 .2)) in
-    rw (s .0, q)
+stepping-steps t m p [] s = refl
+stepping-steps t m p (r ∷ rs) s =
+    let j : Judged Visited = step p (t .now) (m .now) in
+    let q = stepping-steps t m (placeAfter p j) rs (subst (λ (v : Walk). Stepping v rs) (s .1 .1 ∙ reader-after t m p) (s .1 .2)) in
+    rw (s .0 ∙ reader-step t m p, q)
 
 -- A new reader over a pair that is lent within the rule gives exactly the candidates, each once, from left to right, then answer 12.
 pub reader-visits : (t m : RefT (List ℕ)) (w : Walk) (rs : List Visit) → w ≡ readerAt t m 0 → Stepping w rs → lentForReading (t .now) (m .now) ≡ true
     → map judgedVisit rs ≡ take (length rs) (visits (candidates (cells (t .now) (m .now))) ++ replicate (length rs) (refused sectorMissing))
 reader-visits t m w rs e s l =
-    stepping-steps (readerAt t m 0) rs (subst (λ (v : Walk). Stepping v rs) e s) ∙ walk-visits (length rs) (t .now) (m .now) l
+    stepping-steps t m 0 rs (subst (λ (v : Walk). Stepping v rs) e s) ∙ walk-visits (length rs) (t .now) (m .now) l
 
 -- Over any other pair each of its steps answers 1.
 pub reader-refuses : (t m : RefT (List ℕ)) (w : Walk) (rs : List Visit) → w ≡ readerAt t m 0 → Stepping w rs → lentForReading (t .now) (m .now) ≡ false
     → map judgedVisit rs ≡ replicate (length rs) (refused lentWrong)
 reader-refuses t m w rs e s l =
-    stepping-steps (readerAt t m 0) rs (subst (λ (v : Walk). Stepping v rs) e s) ∙ walk-refuses (length rs) 0 (t .now) (m .now) l
+    stepping-steps t m 0 rs (subst (λ (v : Walk). Stepping v rs) e s) ∙ walk-refuses (length rs) 0 (t .now) (m .now) l
 
 take-replicate : {A : Type 0} (k j : ℕ) (a : A) → k ≤ j → take k (replicate j a) ≡ replicate k a
 take-replicate zero j a h = refl

@@ -1,14 +1,15 @@
 // Walk: a reader that keeps a lent track and moves from one candidate to the next, left to right.
 ghost use mathlib.Core.Path.{_≡_};
-ghost use Rattle.format.specs.Walk.{step, placeAfter};
+ghost use Rattle.format.specs.Walk.{placeAfter};
 ghost use Rattle.reader.specs.Finding.{judgedVisit};
-ghost use Rattle.walking.specs.Walked.{readerAt, stepOf, afterStep, visitOf};
+ghost use Rattle.walking.specs.Walked.{judgedStep, readerAt, stepOf, afterStep, visitOf};
 
-// A reader: the lent track and its marks, with the place that it has come to.
+// A reader: the lent track and its marks, with the place that it has come to, and whether they are lent within the rule.
 pub struct Walk<'a> {
     track: &'a [u8],
     marks: &'a [u8],
     at: usize,
+    lent: bool,
 }
 
 // A step: what it gives, and the place that the reader has come to by it.
@@ -18,11 +19,15 @@ pub struct Stepped {
 }
 
 // The step of a reader that has come to place `at`: it goes behind the candidate's first byte, and stays where it was with none left.
-fn step_from<'a>(track: &'a [u8], marks: &'a [u8], at: usize) -> Stepped
-    ensures { λ r. ⌜ (judgedVisit (r .visit) ≡ step at (now (track .entry)) (now (marks .entry)))
-        × (r .at ≡ placeAfter at (step at (now (track .entry)) (now (marks .entry)))) ⌝ }
+fn step_from<'a>(track: &'a [u8], marks: &'a [u8], at: usize, lent: bool) -> Stepped
+    ensures { λ r. ⌜ (judgedVisit (r .visit) ≡ judgedStep lent at (now (track .entry)) (now (marks .entry)))
+        × (r .at ≡ placeAfter at (judgedStep lent at (now (track .entry)) (now (marks .entry)))) ⌝ }
 {
-    let visit = reader::step_at(track, marks, at);
+    if !lent {
+        let visit = reader::Visit::Refused(format::lent_wrong());
+        return Stepped { visit, at };
+    }
+    let visit = reader::step_lent(track, marks, at);
     match visit {
         reader::Visit::At(v) => Stepped {
             visit,
@@ -32,14 +37,16 @@ fn step_from<'a>(track: &'a [u8], marks: &'a [u8], at: usize) -> Stepped
     }
 }
 
-// A new reader over these slices: it has come to place 0.
+// A new reader over these slices: it has come to place 0, and judges once whether they are lent within the rule.
 pub fn start<'a>(track: &'a [u8], marks: &'a [u8]) -> Walk<'a>
     ensures { λ r. ⌜ r ≡ readerAt (track .entry) (marks .entry) 0 ⌝ }
 {
+    let lent = search::lent_for_reading(track, marks);
     Walk {
         track,
         marks,
         at: 0,
+        lent,
     }
 }
 
@@ -48,7 +55,7 @@ impl<'a> Walk<'a> {
     pub fn step(&mut self) -> reader::Visit
         ensures { λ r. ⌜ (judgedVisit r ≡ stepOf (now (self .entry))) × (now (self .exit) ≡ afterStep (now (self .entry))) ⌝ }
     {
-        let s = step_from(self.track, self.marks, self.at);
+        let s = step_from(self.track, self.marks, self.at, self.lent);
         self.at = s.at;
         s.visit
     }

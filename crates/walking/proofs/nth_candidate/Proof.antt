@@ -62,7 +62,7 @@ use Rattle.walking.proofs.start.Met as start-thm
 use Rattle.walking.proofs.Walk.step.Symbol as step-def
 use Rattle.walking.proofs.Walk.step.Symbol.{name as #walking·Walk·step}
 use Rattle.walking.proofs.Walk.step.Met as step-thm
-use Rattle.walking.proofs.Visits.{reached, reached-none, reached-next, step-visits}
+use Rattle.walking.proofs.Visits.{reader-step, reader-after, reached, reached-none, reached-next, step-visits}
 use Rattle.walking.proofs.Lent.{StartTriple, StepTriple, Given-by, αₑ, B, lies-in, lies-out, to, Kept, before, after}
 use Rattle.walking.proofs.nth_candidate.Key.{name as #walking·nth-candidate}
 use Rattle.walking.proofs.nth_candidate as nth
@@ -159,7 +159,11 @@ module _ {M : Type 1} (𝓤 : URA M) (H : Heap 𝓤) (A : Atoms 𝓤) (W : Given
 
   -- step n gives what is asked
   given-last : (i : ℕ) (u : Val) (r : Visit) → Holds (eqb i n) → Given-by (h i) u r → judgedVisit r ≡ visitOf n (tr .now) (mk .now)
-  given-last i u r same g = let e : i ≡ n = eqb-yes same in g .0 ∙ rw e (step-visits n (tr .now) (mk .now))
+  given-last i u r same g = let e : i ≡ n = eqb-yes same in g .0 ∙ reader-step tr mk (reached i 0 (tr .now) (mk .now)) ∙ rw e (step-visits n (tr .now) (mk .now))
+
+  -- a step more
+  steps-on : (i : ℕ) → afterStep (h i) ≡ h (i + 1)
+  steps-on i = reader-after tr mk (reached i 0 (tr .now) (mk .now)) ∙ ap (readerAt tr mk) (reached-next i 0 (tr .now) (mk .now))
 
   -- another step is before step n
   not-last : (i : ℕ) → i ≤ n → Holds (not (eqb i n)) → i < n
@@ -216,7 +220,7 @@ module _ {M : Type 1} (𝓤 : URA M) (H : Heap 𝓤) (A : Atoms 𝓤) (W : Given
           keep ! (1 ∷ 2 ∷ []) $ by ! (exits u r (given-last (i .0) u r same g) (g .1)))
           (λ other. skips ! $ exec ! C Λ En more (anyQ (Turned i)) $
           assigns-last ! (bin ! (load ! (from ! (stop !)) (look ! 3 refl)) (lit ! tt) (record { fits = fits (next other) })) (from ! (stop !)) (store ! 3 refl (tt, record { fits = fits (next other) })) $
-          forget ! 4 refl $ forget ! 5 refl $ forget ! 6 refl $ rewrite ! 0 (λ (p : ℕ). ‵ (mem Bw .lies (readerAt tr mk p) l₄ 0)) (reached-next (i .0) 0 (tr .now) (mk .now)) refl $
+          forget ! 4 refl $ forget ! 5 refl $ forget ! 6 refl $ rewrite ! 0 (λ (z : Walk). ‵ (mem Bw .lies z l₄ 0)) (steps-on (i .0)) refl $
           again ! Nearer At i (next other) (add-one-dec n (i .0) (not-last (i .0) (i .1) other))))))))
         where
           fits : (j : Upto) → j .0 < 2 ^ 64
