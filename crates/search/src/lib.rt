@@ -97,17 +97,14 @@ fn starts_with(track: &[u8], marks: &[u8], p: usize, opening: &[u8], marking: &[
     if cells_from(track, marks, p) < size {
         return false;
     }
+    let mut any: u8 = 0;
     let mut k = 0;
     while k < size {
-        if track[p + k] != opening[k] {
-            return false;
-        }
-        if marks[p + k] != marking[k] {
-            return false;
-        }
+        any |= track[p + k] ^ opening[k];
+        any |= marks[p + k] ^ marking[k];
         k += 1;
     }
-    true
+    any == 0
 }
 
 // Whether a plain opening stands at place p: six bytes, none of them marked.
