@@ -1,6 +1,6 @@
 -- Laws of the zeros that bytes start with, and of the unmarked cells that they are.
 use mathlib.Core.Path.{_≡_, sym, ap}
-use Prim.Native.Nat.{ℕ, suc, _+_, _-_, _*_, _≤_, _<_}
+use Prim.Native.Nat.{ℕ, zero, suc, _+_, _-_, _*_, _≤_, _<_}
 use native.Mathlib.Omega.{arith}
 use mathlib.Core.List.{List, [], _∷_}
 use lib.Dec.{eqb}
@@ -28,6 +28,16 @@ zeros-off s i h z = rw (drop-cons s i 0 h, ne-eqb (getD s i 0) 0 z)
 pub zeros-none : (s : List ℕ) (i : ℕ) → length s ≤ i → zeroRun (drop i s) ≡ 0
 unfolding zeroRun
 zeros-none s i h = rw (drop-of-length-le s {i = i} h)
+
+-- The zeros behind j of them.
+pub zeros-behind : (j : ℕ) (s : List ℕ) → j ≤ zeroRun s → zeroRun s ≡ j + zeroRun (drop j s)
+unfolding zeroRun
+zeros-behind zero s h = omega arith
+zeros-behind (suc j) [] h = absurd (omega arith)
+zeros-behind (suc j) (b ∷ s) h =
+    cases (eqb b 0)
+    (λ z. rw z (omega (arith, zeros-behind j s (omega (arith, rw z at h)))))
+    (λ z. absurd (omega (arith, rw z at h)))
 
 -- The unmarked cells of a lent pair are the zeros among the marks that have a byte.
 run-cells : (t m : List ℕ) → ((i : ℕ) → getD t i 0 < 256) → unmarkedRun (cells t m) ≡ zeroRun (take (length (cells t m)) m)

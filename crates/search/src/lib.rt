@@ -209,12 +209,11 @@ fn step_zeros(a: u64, b: u64, c: u64, d: u64) -> usize
     bytes_passed(a, bytes_passed(b, bytes_passed(c, 0))) + u64::trailing_zeros(word) as usize / 8
 }
 
-// Where the zeros from a place on end, found one by one.
-fn zeros_end(bytes: &[u8], from: usize) -> usize
-    requires { ⌜ from ≤ length (now bytes) ⌝ }
-    ensures { λ r. ⌜ r ≡ from + zeroRun (drop from (now (bytes .entry))) ⌝ }
+// How many zeros the bytes start with, found one by one.
+fn zeros_singly(bytes: &[u8]) -> usize
+    ensures { λ r. ⌜ r ≡ zeroRun (now (bytes .entry)) ⌝ }
 {
-    let mut i = from;
+    let mut i = 0;
     while i < bytes.len() {
         if bytes[i] != 0 {
             return i;
@@ -224,10 +223,30 @@ fn zeros_end(bytes: &[u8], from: usize) -> usize
     i
 }
 
-// How many zeros the bytes start with: by steps of 32, then one by one.
+// Where the zeros end that the last 32 bytes start with.
+fn last_step_end(bytes: &[u8]) -> usize
+    requires { ⌜ 32 ≤ length (now bytes) ⌝ }
+    ensures { λ r. ⌜ r ≡ length (now (bytes .entry)) - 32 + zeroRun (drop (length (now (bytes .entry)) - 32) (now (bytes .entry))) ⌝ }
+{
+    let i = bytes.len() - 32;
+    let a = word_at(bytes, i);
+    let b = word_at(bytes, i + 8);
+    let c = word_at(bytes, i + 16);
+    let d = word_at(bytes, i + 24);
+    let any = a | b | c | d;
+    if any == 0 {
+        return bytes.len();
+    }
+    i + step_zeros(a, b, c, d)
+}
+
+// How many zeros the bytes start with: by steps of 32, of which the last one ends with the bytes.
 fn zero_run(bytes: &[u8]) -> usize
     ensures { λ r. ⌜ r ≡ zeroRun (now (bytes .entry)) ⌝ }
 {
+    if bytes.len() < 32 {
+        return zeros_singly(bytes);
+    }
     let mut i = 0;
     while bytes.len() - i >= 32 {
         let a = word_at(bytes, i);
@@ -240,7 +259,7 @@ fn zero_run(bytes: &[u8]) -> usize
         }
         i += 32;
     }
-    zeros_end(bytes, i)
+    last_step_end(bytes)
 }
 
 // How many cells stand from place p on before the first marked one.
