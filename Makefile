@@ -39,10 +39,11 @@ host-test: prove
 	$(MAKE) try
 	cd host && $(CARGO) test --quiet
 
-# The proved library as an archive for C and Rust, and the check alone as another.
+# The proved library as an archive for C and Rust, and as others the check alone and a walk from its start.
 lib:
 	rt staticlib station
 	rt staticlib crc_ffi
+	rt staticlib walk_ffi
 
 # The C programs.
 examples: lib
@@ -68,7 +69,7 @@ try: examples
 
 # As many seeds as one likes: make soak SOAK=1000000 SEED=5000000
 soak: lib
-	cd host && ISO3561_SOAK=$(SOAK) ISO3561_SEED=$(SEED) $(CARGO) test -p station -p crc --test reading --test listing --test writing --test rules --test gaps --test bursts --test bit_cells --test cylinder --test check
+	cd host && ISO3561_SOAK=$(SOAK) ISO3561_SEED=$(SEED) $(CARGO) test -p station -p crc -p walk --test reading --test listing --test writing --test rules --test gaps --test bursts --test bit_cells --test cylinder --test check --test walk
 
 # Three packs of 2,030 tracks in files, sound, damaged and of cards, from a seed: make packs PACK_SEED=7
 packs: lib

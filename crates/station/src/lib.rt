@@ -84,7 +84,7 @@ fn packed_visited(v: reader::Visited) -> u64
 }
 
 // A step: the candidate that it comes to, or the number of its refusal alone.
-fn packed_visit(x: reader::Visit) -> u64
+pub fn packed_visit(x: reader::Visit) -> u64
     ensures { λ r. ⌜ r ≡ packedVisit (judgedVisit x) ⌝ }
 {
     match x {
