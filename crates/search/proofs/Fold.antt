@@ -45,19 +45,21 @@ legal-end m i a h = rw (drop-of-length-le m {i = i} h) (and-true (ltb a 2))
 
 -- An opening with the bytes u and the marks v, and its cell k beside that at place p + k of a track t with the marks m; n is the fold so far.
 module _ (u v t m : List ℕ) (p k n : ℕ) (h : k < length (cells u v)) (l : p + k < length (cells t m)) (a : getD u k 0 < 256) (b : getD t (p + k) 0 < 256) where
+  -- What is left of the opening stands from this cell on, and from the next one on.
   abbrev here : Bool
   here = startsWith (drop k (cells u v)) (drop (p + k) (cells t m))
 
   abbrev next : Bool
   next = startsWith (drop (k + 1) (cells u v)) (drop (p + (k + 1)) (cells t m))
 
+  -- The difference of the two bytes, and that of the two marks.
   abbrev byte : ℕ
   byte = bitXor (getD t (p + k) 0) (getD u k 0)
 
   abbrev mark : ℕ
   mark = bitXor (getD m (p + k) 0) (getD v k 0)
 
-  -- They differ.
+  -- One of the two is not 0.
   differs : (bitOr (bitOr n byte) mark ≡ 0 → ⊥) → here ≡ false → (eqb n 0 && here) ≡ (eqb (bitOr (bitOr n byte) mark) 0 && next)
   differs x e = and-right (eqb n 0) e ∙ sym (rw (ne-eqb (bitOr (bitOr n byte) mark) 0 x))
 
