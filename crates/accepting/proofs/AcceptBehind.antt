@@ -9,7 +9,7 @@ use lib.Dec.{leb, eqb}
 use borrow.Author.Tests.{leb-true, eqb-true}
 use Rattle.format.specs.Answer.{Answer, lentWrong, firstCountMissing, sectorRepeated}
 use Rattle.format.specs.Judged.{Judged, good, refused, then, answerOf}
-use Rattle.format.specs.Lent.{lengthRight, marksLegal, lentForWriting, lentForReading, cells}
+use Rattle.format.specs.Lent.{lengthRight, lentForWriting, lentForReading, cells}
 use Rattle.format.specs.Opening.{startsWith, plainOpening}
 use Rattle.format.specs.Home.{Home, judgeHome, firstCountPlace}
 use Rattle.format.specs.Count.{Settled, unsettled, countNumber}
@@ -61,26 +61,25 @@ numbers-placed h i x p (g ∷ gs) (s ∷ ss) seen e =
     let n : s .number ≡ countNumber (drop (openingLength (isFirst i)) g) = ap (λ (z : Sector). z .number) (read-inv h i x p (none gs) g s (e .0) .sector-is) in
     rw (n, numbers-placed h (suc i) (settle x s) (p + length g) gs ss (countNumber (drop (openingLength (isFirst i)) g) ∷ seen) (e .1))
 
--- What is known of the lengths of a pair that is lent within the rule.
+-- What is known of the lengths of a pair that is lent for writing within the rule.
 record Lent (t m : List ℕ) : Type 0 where
   lengths : length m ≡ length t
   least : 3815 ≤ length t
   most : length t ≤ 4002
 
-lent-lengths : (t m : List ℕ) → lentForReading t m ≡ true → Lent t m
-unfolding lentForReading lentForWriting lengthRight
-lent-lengths t m e =
-    let w = and-both (lentForWriting (length t) (length m)) (marksLegal m) e in
-    let k = and-both (lengthRight (length t)) (eqb (length m) (length t)) (w .0) in
+lent-lengths : (t m : List ℕ) → lentForWriting (length t) (length m) ≡ true → Lent t m
+unfolding lentForWriting lengthRight
+lent-lengths t m w =
+    let k = and-both (lengthRight (length t)) (eqb (length m) (length t)) w in
     let r = and-both (leb 3815 (length t)) (leb (length t) 4002) (k .0) in
     record { lengths = eqb-true (length m) (length t) (k .1); least = leb-true 3815 (length t) (r .0); most = leb-true (length t) 4002 (r .1) }
 
 -- It has at most 4,002 bytes.
-pub lent-longest : (t m : List ℕ) → lentForReading t m ≡ true → length t ≤ 4002
+pub lent-longest : (t m : List ℕ) → lentForWriting (length t) (length m) ≡ true → length t ≤ 4002
 lent-longest t m e = lent-lengths t m e .most
 
--- A track that is lent within the rule, on which no mark is stray behind a home at q.
-pub unstrayed : (q : ℕ) (t m ns : List ℕ) → q ≤ 37 → lentForReading t m ≡ true → judgeMarks (q + 25 + 18) 0 0 (cells t m) ≡ good tt → ns ≡ startsIn 0 (cells t m) → NoStrayMark (q + 25) t m ns
+-- A track of a right length, on which no mark is stray behind a home at q.
+pub unstrayed : (q : ℕ) (t m ns : List ℕ) → q ≤ 37 → lentForWriting (length t) (length m) ≡ true → judgeMarks (q + 25 + 18) 0 0 (cells t m) ≡ good tt → ns ≡ startsIn 0 (cells t m) → NoStrayMark (q + 25) t m ns
 unstrayed q t m ns l e j s =
     let k = lent-lengths t m e in
     record { lengths = k .lengths; within = k .most; reach = omega (arith, k .least); judged = j; places = s }

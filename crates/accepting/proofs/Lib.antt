@@ -8,3 +8,4 @@ pub mod AcceptSpans
 pub mod AcceptFirst
 pub mod AcceptNumbers
 pub mod AcceptBehind
+pub mod AcceptLegal

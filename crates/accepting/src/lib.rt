@@ -5,10 +5,11 @@ ghost use mathlib.Core.List.{[]};
 ghost use Prim.Native.Nat.{_-_, _≤_};
 ghost use lib.ListN.{length, getD, drop};
 ghost use lib.Dec.{leb};
-ghost use Rattle.format.specs.Answer.{asAnswer};
-ghost use Rattle.format.specs.Judged.{answerOf, good, then};
+ghost use Rattle.base.specs.Pick.{pick};
+ghost use Rattle.format.specs.Answer.{asAnswer, lentWrong};
+ghost use Rattle.format.specs.Judged.{answerOf, good, refused, then};
 ghost use Rattle.format.specs.Layout.{homeFirst, homeLast};
-ghost use Rattle.format.specs.Lent.{lentForReading, cells};
+ghost use Rattle.format.specs.Lent.{marksLegal, lentForWriting, cells};
 ghost use Rattle.format.specs.Opening.{startsWith, plainOpening};
 ghost use Rattle.format.specs.Count.{unsettled, settled};
 ghost use Rattle.format.specs.Span.{laterSpans, spans};
@@ -166,7 +167,7 @@ fn judge_numbers(track: &[u8], marks: &[u8], starts: &[u16], p: usize) -> format
 
 // The answer for a track behind its home h: 5, then the sectors, then 13.
 fn judge_behind(track: &[u8], marks: &[u8], h: Home) -> format::Answer
-    requires { ⌜ lentForReading (now track) (now marks) ≡ true ⌝ }
+    requires { ⌜ lentForWriting (length (now track)) (length (now marks)) ≡ true ⌝ }
     requires { ⌜ (homeFirst ≤ h .place) × (h .place ≤ homeLast) ⌝ }
     ensures { λ a. ⌜ asAnswer a ≡ answerOf (judgeBehind (asHome h) (cells (now (track .entry)) (now (marks .entry)))) ⌝ }
 {
@@ -191,24 +192,39 @@ pub enum Judged {
     Refused(format::Answer),
 }
 
-// The whole track: 1 to 5, then sector by sector, last 13.
+// A track that is refused by the answer a, where 1 for marks that are not legal comes first.
+fn refused_by(marks: &[u8], a: format::Answer) -> Judged
+    ensures { λ j. ⌜ judgedTrack j ≡ refused (pick (marksLegal (now (marks .entry))) (asAnswer a) lentWrong) ⌝ }
+    ensures { λ j. ⌜ trackInWindow j ⌝ }
+{
+    if search::marks_legal(marks) {
+        Judged::Refused(a)
+    } else {
+        Judged::Refused(format::lent_wrong())
+    }
+}
+
+// The whole track: 1 to 5, then sector by sector, last 13. Where home is right and no mark is stray the marks are legal, so they are looked at for that only before 2 to 5 are given.
 pub fn judge(track: &[u8], marks: &[u8]) -> Judged
     ensures { λ j. ⌜ judgedTrack j ≡ then (accept (now (track .entry)) (now (marks .entry))) (λ a. good (a .home)) ⌝ }
     ensures { λ j. ⌜ trackInWindow j ⌝ }
 {
-    if !search::lent_for_reading(track, marks) {
+    if !search::lent_for_writing(track.len(), marks.len()) {
         return Judged::Refused(format::lent_wrong());
     }
     let home = judge_home(track, marks);
     match home {
         HomeJudged::Right(h) => {
             let behind = judge_behind(track, marks, h);
-            if behind.number != 0 {
-                return Judged::Refused(behind);
+            if behind.number == 0 {
+                return Judged::Accepted(h);
             }
-            Judged::Accepted(h)
+            if behind.number == 5 {
+                return refused_by(marks, behind);
+            }
+            Judged::Refused(behind)
         }
-        HomeJudged::Refused(a) => Judged::Refused(a),
+        HomeJudged::Refused(a) => refused_by(marks, a),
     }
 }
 
