@@ -8,12 +8,13 @@ use reference::generate::{
 use reference::GapRule;
 use station::MOST_SECTORS;
 
-/// One track of the pack, its bit cells, what is asked of it, and buffers to write to.
+/// One track of the pack, its bit cells, what is asked of it, how many candidates it has, and buffers to write to.
 pub struct Job {
     pub track: Vec<u8>,
     pub marks: Vec<u8>,
     pub bit_cells: Vec<u8>,
     pub s: u8,
+    pub candidates: usize,
     pub addition: WantedAdd,
     pub correction: WantedCorrect,
     pub new: Buffers,
@@ -34,9 +35,11 @@ pub type Generator = fn(u64) -> Track;
 impl Job {
     /// A track, with what a seed asks of it.
     pub fn of(seed: u64, (track, marks): Track) -> Job {
+        let numbers = numbers_of(&track, &marks);
         Job {
             bit_cells: bit_cells_of(&track, &marks),
-            s: some_number(&track, &marks, seed),
+            s: some_number(&numbers, seed),
+            candidates: numbers.len(),
             addition: wanted_add_by(GapRule::One, seed, &track, &marks),
             correction: wanted_correct_by(GapRule::One, seed, &track, &marks),
             new: Buffers::of(track.len()),
@@ -65,15 +68,19 @@ impl Buffers {
     }
 }
 
-/// The number of a readable sector, if there is one.
-fn some_number(track: &[u8], marks: &[u8], seed: u64) -> u8 {
+/// The numbers that the candidates of a track carry.
+fn numbers_of(track: &[u8], marks: &[u8]) -> Vec<u8> {
     let mut walk = reference::Walk::new(track, marks);
-    let numbers: Vec<u8> = std::iter::from_fn(|| walk.step().ok())
+    std::iter::from_fn(|| walk.step().ok())
         .map(|candidate| candidate.s)
-        .collect();
+        .collect()
+}
+
+/// One of these numbers, if there is one.
+fn some_number(numbers: &[u8], seed: u64) -> u8 {
     match numbers.is_empty() {
         true => 0,
-        false => Rng::new(seed).pick(&numbers),
+        false => Rng::new(seed).pick(numbers),
     }
 }
 

@@ -3,7 +3,7 @@
 use crate::calls::{accept_ours, add_ours, correct_ours, find_ours, Call};
 use crate::fast_calls::{accept_fast, add_fast, correct_fast, find_fast, pass};
 use crate::jobs::Job;
-use crate::walks::{walk_fast, walk_ours};
+use crate::walks::{steps_fast, steps_ours, walk_fast, walk_ours};
 use crate::{compare, time};
 use bench::packs::{read, KINDS};
 use std::path::Path;
@@ -21,9 +21,10 @@ const ENOUGH: Duration = Duration::from_millis(1_500);
 type Row = (&'static str, Call, Call);
 
 /// The calls besides Accept.
-const CALLS: [Row; 4] = [
+const CALLS: [Row; 5] = [
     ("find", find_ours, find_fast),
     ("walk", walk_ours, walk_fast),
+    ("walk by single calls", steps_ours, steps_fast),
     ("correct", correct_ours, correct_fast),
     ("add", add_ours, add_fast),
 ];

@@ -1,4 +1,4 @@
-//! Walk from the first candidate to the last, by the proved library and by the fast implementation.
+//! Walk over a whole track, by the proved library and by the fast implementation: by a reader that is held, and by a call for each step.
 
 use crate::calls::Outcome;
 use crate::jobs::Job;
@@ -25,8 +25,39 @@ impl Walked {
     }
 }
 
-/// Walk by the proved library.
+/// What a walk from the first candidate to the last came to: the last candidate, or the number that refuses it.
+fn last(step: Result<(usize, [usize; 4]), u8>) -> Outcome {
+    match step {
+        Ok((place, [flag, s, kl, dl])) => (0, 0, place, flag + 256 * s, kl + 256 * dl),
+        Err(number) => (number, 0, 0, 0, 0),
+    }
+}
+
+/// Walk to the last candidate by the proved library's reader, which is held from its first step on.
 pub fn walk_ours(job: &mut Job) -> Outcome {
+    let n = job.candidates.saturating_sub(1);
+    let step = walk::nth_candidate(&job.track, &job.marks, n);
+    last(step.map(|c| {
+        (
+            c.place,
+            [c.flag.into(), c.s.into(), c.kl.into(), c.dl.into()],
+        )
+    }))
+}
+
+/// Walk to the last candidate by the fast implementation's reader.
+pub fn walk_fast(job: &mut Job) -> Outcome {
+    let mut walk = fast::Walk::new(&job.track, &job.marks);
+    let mut step = walk.step();
+    for _ in 1..job.candidates {
+        step = walk.step();
+    }
+    let fields = |c: fast::Candidate| [c.flag.into(), c.s.into(), c.kl.into(), c.dl.into()];
+    last(step.map(|c| (c.place, fields(c))).map_err(|end| end.number))
+}
+
+/// Walk by a call of the proved library for each step, as the C interface has it: each judges the pair anew.
+pub fn steps_ours(job: &mut Job) -> Outcome {
     let mut walked = Walked::default();
     for step in station::candidates(&job.track, &job.marks) {
         match step {
@@ -40,8 +71,8 @@ pub fn walk_ours(job: &mut Job) -> Outcome {
     walked.ended(12)
 }
 
-/// Walk by the fast implementation.
-pub fn walk_fast(job: &mut Job) -> Outcome {
+/// The same candidates by the fast implementation's reader.
+pub fn steps_fast(job: &mut Job) -> Outcome {
     let (mut walked, mut walk) = (Walked::default(), fast::Walk::new(&job.track, &job.marks));
     loop {
         match walk.step() {
