@@ -13,9 +13,9 @@ ghost use Rattle.encode.specs.Room.{sectorFrom};
 ghost use Rattle.encode.specs.Gap.{asRule};
 ghost use Rattle.writer.specs.Filled.{filledSpan};
 ghost use Rattle.writer.specs.Remaining.{ReadableFlag, Addable};
-use crate::both_lent;
 use crate::copy_kept;
 use crate::judge_room;
+use crate::lengths_agree;
 use crate::put_span;
 use crate::wanted_right;
 use format::layout::HOME_TO_COUNT;
@@ -146,7 +146,7 @@ pub fn add(
 ) -> format::Answer
     ensures { λ r. ⌜ after (asAnswer r) (now («new_track» .exit)) (now («new_marks» .exit)) ≡ leaves (add (asRule rule) (now (track .entry)) (now (marks .entry)) (length (now («new_track» .entry))) (length (now («new_marks» .entry))) b7 s (now (key .entry)) (now (body .entry))) (now («new_track» .entry)) (now («new_marks» .entry)) ⌝ }
 {
-    if !both_lent(track, marks, new_track.len(), new_marks.len()) {
+    if !lengths_agree(track.len(), new_track.len(), new_marks.len()) {
         return format::lent_wrong();
     }
     let judged = accepting::judge(track, marks);

@@ -14,9 +14,9 @@ ghost use Rattle.encode.specs.Gap.{asRule};
 ghost use Rattle.sectors.specs.SectorAt.{lastFirstCount};
 ghost use Rattle.sectors.specs.From.{SectorsFrom, Remaining};
 ghost use Rattle.writer.specs.Remaining.{Readable, ReadAt, RemainingRoom, RoomFor, laterCells, farthest, correctedEnd, correctedCells};
-use crate::both_lent;
 use crate::copy_kept;
 use crate::judge_room;
+use crate::lengths_agree;
 use crate::put_span;
 use crate::span_end;
 use crate::wanted_right;
@@ -201,7 +201,7 @@ pub fn correct(
 ) -> format::Answer
     ensures { λ r. ⌜ after (asAnswer r) (now («new_track» .exit)) (now («new_marks» .exit)) ≡ leaves (correct (asRule rule) (now (track .entry)) (now (marks .entry)) (length (now («new_track» .entry))) (length (now («new_marks» .entry))) s (now (key .entry)) (now (body .entry))) (now («new_track» .entry)) (now («new_marks» .entry)) ⌝ }
 {
-    if !both_lent(track, marks, new_track.len(), new_marks.len()) {
+    if !lengths_agree(track.len(), new_track.len(), new_marks.len()) {
         return format::lent_wrong();
     }
     let judged = accepting::judge(track, marks);

@@ -1,12 +1,12 @@
 // Writing a lent track: a blank one, one more sector, and a sector with a new key and data.
 ghost use mathlib.Core.Path.{_≡_};
-ghost use mathlib.Core.Bool.{true};
+ghost use mathlib.Core.Bool.{true, _&&_};
 ghost use Prim.Native.Nat.{_+_, _-_, _≤_};
 ghost use lib.ListN.{length, take};
-ghost use lib.Dec.{leb};
+ghost use lib.Dec.{leb, eqb};
 ghost use Rattle.base.specs.Pick.{pick};
 ghost use Rattle.format.specs.Answer.{asAnswer, done, roomMissing};
-ghost use Rattle.format.specs.Lent.{bytesOf, marksOf, bothLent};
+ghost use Rattle.format.specs.Lent.{bytesOf, marksOf};
 ghost use Rattle.format.specs.Block.{leastGap};
 ghost use Rattle.format.specs.GapRule.{gapBy, ruleRight, wantedRight};
 ghost use Rattle.format.specs.Written.{sectorSize};
@@ -44,17 +44,14 @@ fn wanted_right(rule: encode::GapRule, key: &[u8], body: &[u8]) -> bool
     content_right(key, body)
 }
 
-// Whether both pairs are lent within the rule: the read one, and the written one of the lengths l and k.
-fn both_lent(track: &[u8], marks: &[u8], l: usize, k: usize) -> bool
-    ensures { λ r. ⌜ r ≡ bothLent (now (track .entry)) (now (marks .entry)) l k ⌝ }
+// Whether the written pair, of the lengths l and k, is as long as the read track, which has n bytes.
+fn lengths_agree(n: usize, l: usize, k: usize) -> bool
+    ensures { λ r. ⌜ r ≡ (eqb l n && eqb k n) ⌝ }
 {
-    if !search::lent_for_reading(track, marks) {
+    if l != n {
         return false;
     }
-    if l != track.len() {
-        return false;
-    }
-    k == track.len()
+    k == n
 }
 
 // The answer to whether there is room: 15 where the last block would end later than l - 13, else 0.
