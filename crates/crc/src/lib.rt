@@ -6,6 +6,7 @@ ghost use Rattle.crc.specs.Check.{coefficients, remainder, checkOf, agre
 mod wide;
 
 use wide::remainder_wide;
+pub use wide::word_of;
 
 // The number that two bytes make, the high one first.
 fn from_be_bytes(high: u8, low: u8) -> u16

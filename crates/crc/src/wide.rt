@@ -9,7 +9,7 @@ use crate::from_be_bytes;
 use crate::remainder_of;
 
 // Eight bytes as one number, the first one lowest.
-fn word_of(a: u8, b: u8, c: u8, d: u8, e: u8, f: u8, g: u8, h: u8) -> u64
+pub fn word_of(a: u8, b: u8, c: u8, d: u8, e: u8, f: u8, g: u8, h: u8) -> u64
     ensures { λ r. ⌜ r ≡ wordOf a b c d e f g h ⌝ }
 {
     let front = a as u64 + b as u64 * 0x100 + c as u64 * 0x10000 + d as u64 * 0x1000000;

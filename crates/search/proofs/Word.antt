@@ -12,7 +12,8 @@ use lib.ListN.{length, getD, drop}
 use borrow.Author.Tests.{eqb-true, eqb-false}
 use Rattle.base.specs.Pick.{pick}
 use Rattle.base.proofs.Tests.{cases}
-use Rattle.search.specs.Zero.{zeroRun, word, wordAt, wordZeros}
+use Rattle.crc.specs.Word.{wordOf}
+use Rattle.search.specs.Zero.{zeroRun, wordAt, wordZeros}
 use Rattle.search.proofs.Zero.{zeros-on, zeros-off}
 
 -- The lowest digit of n is 0, or it is not.
@@ -78,7 +79,7 @@ word-set (suc n) s i h b e =
 
 -- Eight bytes, each with its weight, are the word at their place.
 pub word-sum : (s : List ℕ) (i w : ℕ)
-    → w ≡ word (getD s i 0) (getD s (i + 1) 0) (getD s (i + 2) 0) (getD s (i + 3) 0) (getD s (i + 4) 0) (getD s (i + 5) 0) (getD s (i + 6) 0) (getD s (i + 7) 0)
+    → w ≡ wordOf (getD s i 0) (getD s (i + 1) 0) (getD s (i + 2) 0) (getD s (i + 3) 0) (getD s (i + 4) 0) (getD s (i + 5) 0) (getD s (i + 6) 0) (getD s (i + 7) 0)
     → w ≡ wordAt 8 s i
 unfolding wordAt
 word-sum s i w e = let f = simp towards-suc at e in omega arith

@@ -11,11 +11,6 @@ unfoldable pub zeroRun : List ℕ → ℕ
 zeroRun [] = 0
 zeroRun (b ∷ bs) = let n = zeroRun bs in pick (eqb b 0) (suc n) 0
 
--- Eight bytes as one number, the first one lowest.
-abbrev pub word : ℕ → ℕ → ℕ → ℕ → ℕ → ℕ → ℕ → ℕ → ℕ
-word a b c d e f g h =
-    a + b * 0x100 + c * 0x10000 + d * 0x1000000 + e * 0x100000000 + f * 0x10000000000 + g * 0x1000000000000 + h * 0x100000000000000
-
 -- The n bytes of s from place i on as one number, the first one lowest.
 unfoldable pub wordAt : ℕ → List ℕ → ℕ → ℕ
 wordAt zero s i = 0

@@ -9,7 +9,7 @@ ghost use Rattle.format.specs.Opening.{startsWith, plainOpening, opens};
 ghost use Rattle.format.specs.Home.{findHome};
 ghost use Rattle.format.specs.Span.{unmarkedRun, runsToIndex, spanLength};
 ghost use Rattle.search.specs.Place.{judgedPlace, inWindow};
-ghost use Rattle.search.specs.Zero.{zeroRun, word, wordAt, stepZeros};
+ghost use Rattle.search.specs.Zero.{zeroRun, wordAt, stepZeros};
 use format::layout::HOME_FIRST;
 use format::layout::HOME_LAST;
 use format::layout::LONGEST;
@@ -152,21 +152,12 @@ pub fn find_home(track: &[u8], marks: &[u8]) -> Found
     }
 }
 
-// Eight bytes as one number, the first one lowest.
-fn word_of(a: u8, b: u8, c: u8, d: u8, e: u8, f: u8, g: u8, h: u8) -> u64
-    ensures { λ r. ⌜ r ≡ word a b c d e f g h ⌝ }
-{
-    let low = a as u64 + b as u64 * 0x100 + c as u64 * 0x10000 + d as u64 * 0x1000000;
-    let high = e as u64 + f as u64 * 0x100 + g as u64 * 0x10000 + h as u64 * 0x1000000;
-    low + high * 0x100000000
-}
-
 // The eight bytes from place i on as one number.
 fn word_at(bytes: &[u8], i: usize) -> u64
     requires { ⌜ i + 8 ≤ length (now bytes) ⌝ }
     ensures { λ r. ⌜ r ≡ wordAt 8 (now (bytes .entry)) i ⌝ }
 {
-    word_of(
+    crc::word_of(
         bytes[i],
         bytes[i + 1],
         bytes[i + 2],

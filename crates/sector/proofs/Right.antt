@@ -5,7 +5,7 @@ use native.Mathlib.Omega.{arith}
 use mathlib.Core.Bool.{Bool, true, false, _&&_}
 use mathlib.Core.List.{List}
 use Rattle.format.specs.Answer.{Answer, spanTooShort, countCheckWrong, countFieldsWrong, keyWrong, dataWrong}
-use Rattle.format.specs.Fault.{Fault, Tested, sound, faulty}
+use Rattle.format.specs.Fault.{Fault, Tested, sound, faulty, demand}
 use Rattle.format.specs.Judged.{Judged, good, refused, then, require, requireSound, answerOf}
 use Rattle.format.specs.Home.{Home}
 use Rattle.format.specs.Count.{Settled, countFits, countClosed, countFieldsRight}
@@ -19,6 +19,12 @@ use Rattle.sector.specs.Right.{isSound, blocksRight, sectorRight}
 sound-is : (t : Tested) → isSound t ≡ true → t ≡ sound
 sound-is sound e = refl
 sound-is (faulty f) e = false-true e
+
+-- Two tests in turn find nothing at fault where both hold.
+pub sound-two : (a b : Bool) (x y : Fault) → isSound (demand a x (demand b y sound)) ≡ (a && b)
+sound-two true true x y = refl
+sound-two true false x y = refl
+sound-two false b x y = refl
 
 -- Blocks that are right are good.
 blocks-good : (first : Bool) (p : ℕ) (last : Bool) (r : List ℕ) → blocksRight last r ≡ true → readBlocks first p last r ≡ good (sectorIn first r)

@@ -11,6 +11,7 @@ ghost use Rattle.sector.specs.As.{asTested};
 ghost use Rattle.sector.specs.Measured.{asMeasured, measuredIn};
 ghost use Rattle.sector.specs.Right.{isSound, blocksRight};
 use crate::bytes::check_follows;
+use crate::bytes::closed_after;
 use crate::bytes::closing_follows;
 use crate::bytes::starts_plain;
 use crate::bytes::starts_with;
@@ -194,6 +195,42 @@ fn is_sound(t: Tested) -> bool
     }
 }
 
+// Whether nothing is at fault in a block of n information bytes.
+fn block_sound(n: usize, c: &[u8]) -> bool
+    ensures { λ b. ⌜ b ≡ isSound (testBlock n (now (c .entry))) ⌝ }
+{
+    if !starts_plain(c) {
+        return false;
+    }
+    closed_after(&c[PLAIN..], n)
+}
+
+// Whether nothing is at fault in the data block where DL = 0.
+fn empty_sound(c: &[u8]) -> bool
+    ensures { λ b. ⌜ b ≡ isSound (testEmpty (now (c .entry))) ⌝ }
+{
+    if !starts_plain(c) {
+        return false;
+    }
+    starts_zero(&c[PLAIN..])
+}
+
+// Whether nothing is at fault in the data block.
+fn data_sound(r: &[u8]) -> bool
+    ensures { λ b. ⌜ b ≡ isSound (testData (now (r .entry))) ⌝ }
+{
+    let at = data_offset(r);
+    if r.len() < at {
+        return false;
+    }
+    let n = data_length(r);
+    if n == 0 {
+        empty_sound(&r[at..])
+    } else {
+        block_sound(n, &r[at..])
+    }
+}
+
 // Whether the blocks and the least gap lie in the span and nothing is at fault in them; no answer is made.
 pub(crate) fn blocks_right(last: bool, r: &[u8]) -> bool
     ensures { λ b. ⌜ b ≡ blocksRight last (now (r .entry)) ⌝ }
@@ -204,7 +241,7 @@ pub(crate) fn blocks_right(last: bool, r: &[u8]) -> bool
     if !is_sound(test_key(r)) {
         return false;
     }
-    is_sound(test_data(r))
+    data_sound(r)
 }
 
 // The answer for the blocks of the count at p: 9 where they and the least gap do not lie in its span.

@@ -1,8 +1,8 @@
 -- `blocks_right` meets its contract: the tests in turn.
 use mathlib.Core.Path.{sym, ap, _∙_}
 use borrow.Author.Tests.{not-true, not-false}
-use borrow.Author.Needs.{needs}
 use Rattle.sector.specs.Right.{isSound, blocksRight}
+use borrow.Author.Needs.{needs}
 use Rattle.sector.proofs.blocks.blocks_right.Statement.{statement}
 use Rattle.sector.proofs.blocks.blocks_right.Tie as tie
 
@@ -24,16 +24,13 @@ unfolding blocksRight
 returns-2 c =
     rw (sym (c .before .before .before .before .blocks-fit .ensures) ∙ not-false _ (c .before .before .before .if1 .left), sym (c .before .is-sound .ensures ∙ ap isSound (c .before .before .test-key .ensures)) ∙ not-true _ (c .if2 .taken))
 
-test-data-requires : tie.Need-test-data-requires
-test-data-requires c κs = search needs
-
-is-sound-requires-2 : tie.Need-is-sound-requires-2
-is-sound-requires-2 c κs = search needs
+data-sound-requires : tie.Need-data-sound-requires
+data-sound-requires c κs = search needs
 
 returns-3 : tie.Need-returns-3
 unfolding blocksRight
 returns-3 c =
-    rw (sym (c .before .before .before .before .before .before .blocks-fit .ensures) ∙ not-false _ (c .before .before .before .before .before .if1 .left), sym (c .before .before .before .is-sound .ensures ∙ ap isSound (c .before .before .before .before .test-key .ensures)) ∙ not-false _ (c .before .before .if2 .left)) (c .is-sound2 .ensures ∙ ap isSound (c .before .test-data .ensures))
+    rw (sym (c .before .before .before .before .before .blocks-fit .ensures) ∙ not-false _ (c .before .before .before .before .if1 .left), sym (c .before .before .is-sound .ensures ∙ ap isSound (c .before .before .before .test-key .ensures)) ∙ not-false _ (c .before .if2 .left)) (c .data-sound .ensures)
 
 pub blocks-right-spec : {M : Type 1} → statement M
 blocks-right-spec =
@@ -44,6 +41,5 @@ blocks-right-spec =
     test-key-requires
     is-sound-requires
     returns-2
-    test-data-requires
-    is-sound-requires-2
+    data-sound-requires
     returns-3)
