@@ -1,13 +1,13 @@
 -- Counting the sectors of a track from place to place.
-use mathlib.Core.Path.{_≡_, sym, ap, _∙_, subst}
+use mathlib.Core.Path.{_≡_, sym, _∙_, subst}
 use Prim.Native.Nat.{ℕ, _+_, _≤_, _<_}
 use native.Mathlib.Omega.{arith}
 use mathlib.Core.List.{List, [], _∷_}
 use lib.ListN.{length}
 use Rattle.format.specs.Lent.{cells}
 use Rattle.format.specs.Accept.{Placed}
-use Rattle.sectors.specs.declared.SectorAt.{SectorAt as SectorCode}
-use Rattle.sectors.specs.SectorAt.{SectorAt, sectorAt, asSectorAt}
+use Rattle.sectors.specs.declared.steps.Step.{Step as StepCode}
+use Rattle.sectors.specs.SectorAt.{StepsOver}
 use Rattle.sectors.specs.From.{SectorsFrom}
 use Rattle.sectors.proofs.Rest.{onward}
 
@@ -25,14 +25,14 @@ Counting t m start p n = (n ≤ p) × ((all : List Placed) → SectorsFrom t m s
 pub count-start : (t m : List ℕ) (start : ℕ) → Counting t m start start 0
 count-start t m start = (omega arith, λ all f. record { sectors = all; steps = f; count-is = omega arith })
 
-module _ (t m : List ℕ) (start p n : ℕ) (i : Counting t m start p n) (x : SectorCode) (e : asSectorAt x ≡ sectorAt p (cells t m)) where
+module _ (t m : List ℕ) (start p n : ℕ) (i : Counting t m start p n) (x : StepCode) (e : StepsOver x p (cells t m)) where
   -- Where no step goes on, all are counted.
   pub count-end : x .next ≤ p → (all : List Placed) → SectorsFrom t m start all → n ≡ length all
   count-end h all f = let l = i .1 all f in go (l .sectors) (l .steps) (l .count-is)
     where
       go : (xs : List Placed) → SectorsFrom t m p xs → n + length xs ≡ length all → n ≡ length all
       go [] s q = omega arith
-      go (y ∷ ys) s q = absurd (omega (arith, ap (λ (z : SectorAt). z .next) e, s .0 .next-is, s .0 .span-least))
+      go (y ∷ ys) s q = absurd (omega (arith, e .1, s .0 .next-is, s .0 .span-least))
 
   -- Another step counts one more.
   pub count-next : p < x .next → Counting t m start (x .next) (n + 1)
@@ -43,6 +43,6 @@ module _ (t m : List ℕ) (start p n : ℕ) (i : Counting t m start p n) (x : Se
       go all (y ∷ ys) s q =
           record {
             sectors = ys;
-            steps = subst (λ (k : ℕ). SectorsFrom t m k ys) (sym (ap (λ (z : SectorAt). z .next) e ∙ s .0 .next-is)) (s .1);
+            steps = subst (λ (k : ℕ). SectorsFrom t m k ys) (sym (e .1 ∙ s .0 .next-is)) (s .1);
             count-is = omega arith;
           }

@@ -1,13 +1,13 @@
 -- The search for the leftmost sector that carries S, step by step.
-use mathlib.Core.Path.{_≡_, refl, sym, ap, _∙_, subst}
+use mathlib.Core.Path.{_≡_, refl, sym, _∙_, subst}
 use Prim.Native.Nat.{ℕ, _≤_, _<_}
 use native.Mathlib.Omega.{arith}
 use mathlib.Core.List.{List, [], _∷_}
 use borrow.Author.Tests.{eq-eqb, ne-eqb}
 use Rattle.format.specs.Lent.{cells}
 use Rattle.format.specs.Accept.{Placed, fromNumber}
-use Rattle.sectors.specs.declared.SectorAt.{SectorAt as SectorCode}
-use Rattle.sectors.specs.SectorAt.{SectorAt, sectorAt, asSectorAt}
+use Rattle.sectors.specs.declared.steps.Step.{Step as StepCode}
+use Rattle.sectors.specs.SectorAt.{StepsOver}
 use Rattle.sectors.specs.From.{SectorsFrom}
 use Rattle.sectors.proofs.Rest.{onward}
 
@@ -25,7 +25,7 @@ Searching t m start s p = (all : List Placed) → SectorsFrom t m start all → 
 pub search-start : (t m : List ℕ) (start s : ℕ) → Searching t m start s start
 search-start t m start s all f = record { remaining = all; steps = f; same = refl }
 
-module _ (t m : List ℕ) (start s p : ℕ) (i : Searching t m start s p) (x : SectorCode) (e : asSectorAt x ≡ sectorAt p (cells t m)) where
+module _ (t m : List ℕ) (start s p : ℕ) (i : Searching t m start s p) (x : StepCode) (e : StepsOver x p (cells t m)) where
   -- The search ends where what remains is what is searched for.
   ends : ((xs : List Placed) → SectorsFrom t m p xs → fromNumber s xs ≡ xs) → (all : List Placed) → SectorsFrom t m start all
       → SectorsFrom t m p (fromNumber s all)
@@ -38,7 +38,7 @@ module _ (t m : List ℕ) (start s p : ℕ) (i : Searching t m start s p) (x : S
     where
       here : (xs : List Placed) → SectorsFrom t m p xs → fromNumber s xs ≡ xs
       here [] f = refl
-      here (y ∷ ys) f = rw (eq-eqb (y .sector .number) s (sym (ap (λ (z : SectorAt). z .number) e ∙ f .0 .number-is) ∙ q))
+      here (y ∷ ys) f = rw (eq-eqb (y .sector .number) s (sym (e .0 ∙ f .0 .number-is) ∙ q))
 
   -- No sector is left.
   pub search-end : x .next ≤ p → (all : List Placed) → SectorsFrom t m start all → SectorsFrom t m p (fromNumber s all)
@@ -47,7 +47,7 @@ module _ (t m : List ℕ) (start s p : ℕ) (i : Searching t m start s p) (x : S
     where
       here : (xs : List Placed) → SectorsFrom t m p xs → fromNumber s xs ≡ xs
       here [] f = refl
-      here (y ∷ ys) f = absurd (omega (arith, ap (λ (z : SectorAt). z .next) e, f .0 .next-is, f .0 .span-least))
+      here (y ∷ ys) f = absurd (omega (arith, e .1, f .0 .next-is, f .0 .span-least))
 
   -- The sector at p does not carry S, and the search goes on behind it.
   pub search-next : (x .number ≡ s → ⊥) → p < x .next → Searching t m start s (x .next)
@@ -57,9 +57,9 @@ module _ (t m : List ℕ) (start s p : ℕ) (i : Searching t m start s p) (x : S
       go : (xs : List Placed) → SectorsFrom t m p xs → fromNumber s all ≡ fromNumber s xs → Reached t m s (x .next) all
       go [] g q = absurd (omega (arith, g, onward t m p x e h))
       go (y ∷ ys) g q =
-          let number : y .sector .number ≡ s → ⊥ = λ k. n (ap (λ (z : SectorAt). z .number) e ∙ g .0 .number-is ∙ k) in
+          let number : y .sector .number ≡ s → ⊥ = λ k. n (e .0 ∙ g .0 .number-is ∙ k) in
           record {
             remaining = ys;
-            steps = subst (λ (k : ℕ). SectorsFrom t m k ys) (sym (ap (λ (z : SectorAt). z .next) e ∙ g .0 .next-is)) (g .1);
+            steps = subst (λ (k : ℕ). SectorsFrom t m k ys) (sym (e .1 ∙ g .0 .next-is)) (g .1);
             same = q ∙ rw (ne-eqb (y .sector .number) s number);
           }

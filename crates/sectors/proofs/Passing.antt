@@ -1,64 +1,85 @@
--- The way over the sectors of a track to the last of them.
+-- The way over the sectors of a track in search of S, and the last sector where none carries it.
 use mathlib.Core.Path.{_≡_, refl, sym, ap, _∙_, subst}
 use Prim.Native.Nat.{ℕ, suc, _+_, _≤_, _<_}
 use native.Mathlib.Omega.{arith}
-use mathlib.Core.Bool.{true, false}
 use mathlib.Core.List.{List, [], _∷_}
 use lib.ListN.{length}
+use borrow.Author.Tests.{eq-eqb, ne-eqb}
 use Rattle.format.specs.Lent.{cells}
-use Rattle.format.specs.Accept.{Placed, lastOf}
-use Rattle.base.proofs.Tests.{false-true}
-use Rattle.sectors.specs.declared.SectorAt.{SectorAt as SectorCode}
-use Rattle.sectors.specs.SectorAt.{SectorAt, sectorAt, asSectorAt}
+use Rattle.format.specs.Accept.{Placed, fromNumber, lastOf}
+use Rattle.sectors.specs.declared.steps.Step.{Step as StepCode}
+use Rattle.sectors.specs.SectorAt.{StepsOver}
 use Rattle.sectors.specs.From.{SectorsFrom}
+use Rattle.sectors.proofs.Rest.{onward}
 
--- The sectors x and `later` from place p on: the last of them is `goal`, and a sector behind it stands in position n, one behind x in position i.
-pub record Passing (t m : List ℕ) (p i : ℕ) (goal : Placed) (n : ℕ) : Type 0 where
-  pub x : Placed
-  pub later : List Placed
-  pub steps : SectorsFrom t m p (x ∷ later)
-  pub last-is : lastOf x later ≡ goal
-  pub position-is : i + length later ≡ n
+-- The last sector is `goal`: the one at place `before` where none remains, else the last of those that remain.
+abbrev pub LastKnown : List ℕ → List ℕ → ℕ → Placed → List Placed → Type 0
+LastKnown t m before goal [] = SectorsFrom t m before (goal ∷ [])
+LastKnown t m before goal (z ∷ zs) = lastOf z zs ≡ goal
 
--- The way to the last sector has come to place p; each step goes on, so that the positions stay few.
-abbrev pub Passed : List ℕ → List ℕ → ℕ → ℕ → ℕ → Type 0
-Passed t m start p i =
-    (i ≤ p + 1) × ((x : Placed) (xs : List Placed) → SectorsFrom t m start (x ∷ xs) → Passing t m p i (lastOf x xs) (suc (length xs)))
+-- The sectors that remain of x and xs from place p on, when n are passed, the last of them at place `before`.
+pub record Passing (t m : List ℕ) (s p before n : ℕ) (x : Placed) (xs : List Placed) : Type 0 where
+  pub remaining : List Placed
+  pub steps : SectorsFrom t m p remaining
+  pub same : fromNumber s (x ∷ xs) ≡ fromNumber s remaining
+  pub last-known : LastKnown t m before (lastOf x xs) remaining
+  pub count-is : n + length remaining ≡ suc (length xs)
 
--- It starts at sector 0.
-pub pass-start : (t m : List ℕ) (start : ℕ) → Passed t m start start 1
-pass-start t m start = (omega arith, λ x xs f. record { x = x; later = xs; steps = f; last-is = refl; position-is = omega arith })
+-- The way has come to place p; each step goes on, so that those passed stay few.
+abbrev pub Passed : List ℕ → List ℕ → ℕ → ℕ → ℕ → ℕ → ℕ → Type 0
+Passed t m start s p before n =
+    (n ≤ p) × ((x : Placed) (xs : List Placed) → SectorsFrom t m start (x ∷ xs) → Passing t m s p before n x xs)
 
-module _ (t m : List ℕ) (start p n : ℕ) (i : Passed t m start p n) (s : SectorCode) (e : asSectorAt s ≡ sectorAt p (cells t m)) where
-  -- The span runs to index: it is the last one's.
-  pub pass-last : s .last ≡ true → (x : Placed) (xs : List Placed) → SectorsFrom t m start (x ∷ xs)
-      → SectorsFrom t m p (lastOf x xs ∷ []) × (n ≡ suc (length xs))
-  pass-last o x xs f = let v = i .1 x xs f in go (v .x) (v .later) (v .steps) (v .last-is) (v .position-is)
+-- At the start all remain.
+pub pass-start : (t m : List ℕ) (start s : ℕ) → Passed t m start s start start 0
+pass-start t m start s = (omega arith, λ x xs f. record { remaining = x ∷ xs; steps = f; same = refl; last-known = refl; count-is = omega arith })
+
+module _ (t m : List ℕ) (start s p before n : ℕ) (i : Passed t m start s p before n) (a : StepCode) (e : StepsOver a p (cells t m)) where
+  -- Where no sector carries S, none remains at the end of the way.
+  pass-end : ((z : Placed) (zs : List Placed) → SectorsFrom t m p (z ∷ zs) → fromNumber s (z ∷ zs) ≡ [] → ⊥) → (x : Placed) (xs : List Placed) → SectorsFrom t m start (x ∷ xs) → fromNumber s (x ∷ xs) ≡ []
+      → SectorsFrom t m before (lastOf x xs ∷ []) × (n ≡ suc (length xs))
+  pass-end k x xs f absent = let v = i .1 x xs f in go (v .remaining) (v .steps) (v .same) (v .last-known) (v .count-is)
     where
-      go : (y : Placed) (ys : List Placed) → SectorsFrom t m p (y ∷ ys) → lastOf y ys ≡ lastOf x xs → n + length ys ≡ suc (length xs)
-          → SectorsFrom t m p (lastOf x xs ∷ []) × (n ≡ suc (length xs))
-      go y [] g k q = (subst (λ (z : Placed). SectorsFrom t m p (z ∷ [])) k g, omega (arith, q))
-      go y (z ∷ zs) g k q = false-true (sym (g .0 .last-is) ∙ sym (ap (λ (w : SectorAt). w .last) e) ∙ o)
+      go : (zs : List Placed) → SectorsFrom t m p zs → fromNumber s (x ∷ xs) ≡ fromNumber s zs → LastKnown t m before (lastOf x xs) zs → n + length zs ≡ suc (length xs)
+          → SectorsFrom t m before (lastOf x xs ∷ []) × (n ≡ suc (length xs))
+      go [] g q l c = (l, omega (arith, c))
+      go (z ∷ zs) g q l c = absurd (k z zs g (sym q ∙ absent))
 
-  -- Where sectors stand, each step goes on.
-  pub pass-stuck : s .next ≤ p → (x : Placed) (xs : List Placed) → SectorsFrom t m start (x ∷ xs)
-      → SectorsFrom t m p (lastOf x xs ∷ []) × (n ≡ suc (length xs))
-  pass-stuck h x xs f =
-      let v = i .1 x xs f in
-      absurd (omega (arith, ap (λ (z : SectorAt). z .next) e, v .steps .0 .next-is, v .steps .0 .span-least))
-
-  -- The span does not run to index: the way goes on at the next one.
-  pub pass-next : s .last ≡ false → p < s .next → Passed t m start (s .next) (n + 1)
-  pass-next o h = (omega (arith, i .0), λ x xs f. let v = i .1 x xs f in go x xs (v .x) (v .later) (v .steps) (v .last-is) (v .position-is))
+  -- The sector at p carries S,
+  pub pass-found : a .number ≡ s → (x : Placed) (xs : List Placed) → SectorsFrom t m start (x ∷ xs) → fromNumber s (x ∷ xs) ≡ []
+      → SectorsFrom t m before (lastOf x xs ∷ []) × (n ≡ suc (length xs))
+  unfolding fromNumber
+  pass-found q = pass-end here
     where
-      go : (x : Placed) (xs : List Placed) (y : Placed) (ys : List Placed) → SectorsFrom t m p (y ∷ ys) → lastOf y ys ≡ lastOf x xs → n + length ys ≡ suc (length xs)
-          → Passing t m (s .next) (n + 1) (lastOf x xs) (suc (length xs))
-      go x xs y [] g k q = false-true (sym o ∙ ap (λ (w : SectorAt). w .last) e ∙ g .0 .last-is)
-      go x xs y (z ∷ zs) g k q =
+      here : (z : Placed) (zs : List Placed) → SectorsFrom t m p (z ∷ zs) → fromNumber s (z ∷ zs) ≡ [] → ⊥
+      here z zs g absent =
+          let r : fromNumber s (z ∷ zs) ≡ z ∷ zs = rw (eq-eqb (z .sector .number) s (sym (e .0 ∙ g .0 .number-is) ∙ q)) in
+          omega (arith, ap length (sym r ∙ absent))
+
+  -- or there is none at p.
+  pub pass-stuck : a .next ≤ p → (x : Placed) (xs : List Placed) → SectorsFrom t m start (x ∷ xs) → fromNumber s (x ∷ xs) ≡ []
+      → SectorsFrom t m before (lastOf x xs ∷ []) × (n ≡ suc (length xs))
+  pass-stuck h = pass-end (λ z zs g absent. omega (arith, e .1, g .0 .next-is, g .0 .span-least))
+
+  -- The sector at p does not carry S, and the way goes on behind it.
+  pub pass-next : (a .number ≡ s → ⊥) → p < a .next → Passed t m start s (a .next) p (n + 1)
+  unfolding fromNumber
+  pass-next o h = (omega (arith, i .0), λ x xs f. let v = i .1 x xs f in go x xs (v .remaining) (v .steps) (v .same) (v .last-known) (v .count-is))
+    where
+      known : (goal z : Placed) (zs : List Placed) → SectorsFrom t m p (z ∷ zs) → lastOf z zs ≡ goal → LastKnown t m p goal zs
+      known goal z [] g l = subst (λ (w : Placed). SectorsFrom t m p (w ∷ [])) l g
+      known goal z (w ∷ ws) g l = l
+
+      go : (x : Placed) (xs zs : List Placed) → SectorsFrom t m p zs → fromNumber s (x ∷ xs) ≡ fromNumber s zs → LastKnown t m before (lastOf x xs) zs → n + length zs ≡ suc (length xs)
+          → Passing t m s (a .next) p (n + 1) x xs
+      go x xs [] g q l c = absurd (omega (arith, g, onward t m p a e h))
+      go x xs (z ∷ zs) g q l c =
+          let number : z .sector .number ≡ s → ⊥ = λ k. o (e .0 ∙ g .0 .number-is ∙ k) in
+          let skip : fromNumber s (z ∷ zs) ≡ fromNumber s zs = rw (ne-eqb (z .sector .number) s number) in
           record {
-            x = z;
-            later = zs;
-            steps = subst (λ (j : ℕ). SectorsFrom t m j (z ∷ zs)) (sym (ap (λ (w : SectorAt). w .next) e ∙ g .0 .next-is)) (g .1);
-            last-is = k;
-            position-is = omega (arith, q);
+            remaining = zs;
+            steps = subst (λ (k : ℕ). SectorsFrom t m k zs) (sym (e .1 ∙ g .0 .next-is)) (g .1);
+            same = q ∙ skip;
+            last-known = known (lastOf x xs) z zs g l;
+            count-is = omega (arith, c);
           }

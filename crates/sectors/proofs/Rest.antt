@@ -19,8 +19,8 @@ use Rattle.base.proofs.Lists.{none-long}
 use Rattle.format.proofs.Find.CandidateBytes.{span-rest-length, span-rest-front, span-rest-bytes}
 use Rattle.search.proofs.Run.{span-le}
 use Rattle.format.proofs.Track.Pairs.{length-cells}
-use Rattle.sectors.specs.declared.SectorAt.{SectorAt as SectorCode}
-use Rattle.sectors.specs.SectorAt.{SectorAt, sectorFields, nowhere, lastFirstCount, opensFirst, restAt, sectorAt, asSectorAt}
+use Rattle.sectors.specs.declared.steps.Step.{Step as StepCode}
+use Rattle.sectors.specs.SectorAt.{SectorAt, sectorFields, nowhere, lastFirstCount, opensFirst, restAt, sectorAt, StepsOver}
 
 -- A place in what follows a count's opening is one in the track.
 pub span-rest-place : (t m : List ℕ) (p o i n : ℕ) → i + n ≤ length (spanRest o (drop p (cells t m)))
@@ -73,10 +73,24 @@ module _ (t m : List ℕ) (p o n : ℕ) (w : o ≡ openingLength (opensFirst p))
   unfolding sectorAt
   sector-here h last l r e = rw (le-leb p 4002 h) (cc)
 
--- Behind the longest track there is no sector.
+  -- The step over it reads its number there.
+  pub step-here : p ≤ 4002 → (r : List ℕ) → r ≡ restAt p (cells t m) → (s : StepCode) → s .number ≡ countNumber r → s .next ≡ p + n → s .last ≡ runsToIndex o (drop p (cells t m))
+      → StepsOver s p (cells t m)
+  unfolding sectorFields
+  step-here h r e s a b d =
+      let k = sector-here h (s .last) d r e in
+      (a ∙ ap (λ (z : SectorAt). z .number) k, b ∙ ap (λ (z : SectorAt). z .next) k, ap (λ (z : SectorAt). z .last) k)
+
+-- Behind the longest track there is no sector,
 pub sector-past : (p : ℕ) (c : List ℕ) → 4002 < p → nowhere ≡ sectorAt p c
 unfolding sectorAt
 sector-past p c h = rw (lt-leb p 4002 h)
+
+-- and no step.
+pub step-past : (p : ℕ) (c : List ℕ) → 4002 < p → (0 ≡ sectorAt p c .number) × (0 ≡ sectorAt p c .next) × (true ≡ sectorAt p c .last)
+step-past p c h =
+    let k = sector-past p c h in
+    (ap (λ (z : SectorAt). z .number) k, ap (λ (z : SectorAt). z .next) k, ap (λ (z : SectorAt). z .last) k)
 
 -- A step that goes on starts on the longest track, and does not go beyond the cells.
 pub next-within : (p : ℕ) (c : List ℕ) → p < sectorAt p c .next → (p ≤ 4002) × (sectorAt p c .next ≤ length c)
@@ -94,13 +108,12 @@ next-within p c h = cases (leb p 4002) low high
     high : leb p 4002 ≡ false → (p ≤ 4002) × (sectorAt p c .next ≤ length c)
     high e = let n : sectorAt p c .next ≡ 0 = rw e in absurd (omega (arith, h, n))
 
--- The same of the sector that `sector_at` gives.
-pub onward : (t m : List ℕ) (p : ℕ) (x : SectorCode) → asSectorAt x ≡ sectorAt p (cells t m) → p < x .next
+-- The same of what a step tells.
+pub onward : (t m : List ℕ) (p : ℕ) (x : StepCode) → StepsOver x p (cells t m) → p < x .next
     → (p ≤ 4002) × (x .next ≤ length (cells t m)) × (x .next ≤ length t)
 onward t m p x e h =
-    let n : x .next ≡ sectorAt p (cells t m) .next = ap (λ (z : SectorAt). z .next) e in
-    let w = next-within p (cells t m) (omega arith) in
-    (w .0, omega (arith, w .1), omega (arith, w .1, length-cells t m))
+    let w = next-within p (cells t m) (omega (arith, e .1)) in
+    (w .0, omega (arith, w .1, e .1), omega (arith, w .1, e .1, length-cells t m))
 
 -- The place of the key's information: 0 where KL = 0,
 pub key-place-none : (n q v : ℕ) → n ≡ 0 → v ≡ 0 → v ≡ pick (eqb n 0) 0 (q + keyOffset + 6)

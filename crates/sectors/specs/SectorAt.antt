@@ -1,4 +1,5 @@
 -- The sector whose count opens at a place of a track, and where the next one starts.
+use mathlib.Core.Path.{_≡_}
 use Prim.Native.Nat.{ℕ, _+_}
 use mathlib.Core.Bool.{Bool, true}
 use mathlib.Core.List.{List}
@@ -13,6 +14,7 @@ use Rattle.format.specs.Span.{runsToIndex, spanLength, spanRest}
 use Rattle.format.specs.Sector.{openingLength}
 use Rattle.sector.specs.As.{asAddress}
 use Rattle.sectors.specs.declared.SectorAt.{SectorAt as SectorCode}
+use Rattle.sectors.specs.declared.steps.Step.{Step as StepCode}
 
 -- The fields of a count, the places of the information, where the data block ends, where the next span starts, and does this one run to index?
 pub record SectorAt : Type 0 where
@@ -95,3 +97,7 @@ asSectorAt s =
       last = s .last;
       address = asAddress (s .address);
     }
+
+-- A step tells these fields of the sector at place p of the cells c.
+abbrev pub StepsOver : StepCode → ℕ → List ℕ → Type 0
+StepsOver s p c = (s .number ≡ sectorAt p c .number) × (s .next ≡ sectorAt p c .next) × (s .last ≡ sectorAt p c .last)

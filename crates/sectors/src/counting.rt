@@ -4,7 +4,7 @@ ghost use mathlib.Core.List.{List};
 ghost use lib.ListN.{length};
 ghost use Rattle.format.specs.Accept.{Placed};
 ghost use Rattle.sectors.specs.From.{SectorsFrom};
-use crate::sector_at;
+use crate::step_at;
 
 // The number of sectors from place `start` on.
 pub fn sector_count(track: &[u8], marks: &[u8], start: usize) -> usize
@@ -13,7 +13,7 @@ pub fn sector_count(track: &[u8], marks: &[u8], start: usize) -> usize
     let mut p = start;
     let mut n: usize = 0;
     loop {
-        let x = sector_at(track, marks, p);
+        let x = step_at(track, marks, p);
         if x.next <= p {
             return n;
         }

@@ -5,18 +5,20 @@ ghost use Rattle.format.specs.Lent.{cells};
 ghost use Rattle.sectors.specs.SectorAt.{sectorFields, opensFirst, sectorAt, asSectorAt};
 
 pub mod counting;
-pub mod ending;
 pub mod seeking;
+pub mod steps;
 
 pub use counting::sector_count;
-pub use ending::Last;
-pub use ending::last_of;
 use format::layout::HOME_LAST;
 use format::layout::HOME_TO_COUNT;
 use format::layout::LONGEST;
 use format::layout::PLAIN;
+pub use seeking::Passage;
 pub use seeking::Sought;
 pub use seeking::place_of;
+pub use seeking::search_from;
+pub use steps::Step;
+pub use steps::step_at;
 
 // The last place at which sector 0's count opens: home starts at 37 at the latest and has 14 bytes, and 11 follow it.
 const LAST_FIRST_COUNT: usize = HOME_LAST + HOME_TO_COUNT;

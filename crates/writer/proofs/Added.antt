@@ -23,7 +23,7 @@ use Rattle.sector.specs.As.{asAddress}
 use Rattle.base.specs.Laid.{laidOver, laidAt}
 use Rattle.encode.specs.Room.{sectorFrom}
 use Rattle.encode.proofs.Cells.{bytes-append, marks-append}
-use Rattle.sectors.specs.declared.ending.Last.{Last}
+use Rattle.sectors.specs.declared.SectorAt.{SectorAt as SectorCode}
 use Rattle.sectors.specs.SectorAt.{SectorAt, sectorAt, asSectorAt}
 use Rattle.sectors.specs.From.{SectorsFrom}
 use Rattle.sectors.proofs.From.{accepted-start}
@@ -150,32 +150,32 @@ all-sectors t m start r =
     let z = some-remaining t m start (r .accepted .sectors) f (omega (arith, readable-low t m start r, u .cells-length)) in
     record { x = z .0; xs = z .1 .0; all = z .1 .1; steps = subst (SectorsFrom t m start) (z .1 .1) f }
 
--- The last sector of a readable track: what was read of it, where it ends, and the position of a sector behind it.
-pub record LastRead (rule : GapRule) (t m : List ℕ) (start : ℕ) (r : Readable t m start) (l : Last) : Type 0 where
+-- The last sector of a readable track with n sectors: what was read of it, and where it ends.
+pub record LastRead (rule : GapRule) (t m : List ℕ) (start : ℕ) (r : Readable t m start) (n : ℕ) (l : SectorCode) : Type 0 where
   pub x : Placed
   pub xs : List Placed
   pub all : r .accepted .sectors ≡ x ∷ xs
-  pub position-is : l .position ≡ suc (length xs)
-  pub position-fits : l .position ≤ 67
-  pub key-fits : l .sector .«key_length» ≤ 255
-  pub data-fits : l .sector .«data_length» ≤ 65535
-  pub address-is : asAddress (l .sector .address) ≡ lastOf x xs .sector .address
-  pub end-is : l .sector .end ≡ endOf (lastOf x xs)
-  pub end-inside : l .sector .end + 13 ≤ length t
-  pub gap-is : gapBy rule (l .sector .«key_length») (l .sector .«data_length») ≡ gapAfter (gapBy rule) (lastOf x xs .sector)
+  pub position-is : n ≡ suc (length xs)
+  pub position-fits : n ≤ 67
+  pub key-fits : l .«key_length» ≤ 255
+  pub data-fits : l .«data_length» ≤ 65535
+  pub address-is : asAddress (l .address) ≡ lastOf x xs .sector .address
+  pub end-is : l .end ≡ endOf (lastOf x xs)
+  pub end-inside : l .end + 13 ≤ length t
+  pub gap-is : gapBy rule (l .«key_length») (l .«data_length») ≡ gapAfter (gapBy rule) (lastOf x xs .sector)
 
--- What `last_of` gives is the last sector.
-pub last-read : (rule : GapRule) (t m : List ℕ) (start : ℕ) (r : Readable t m start) (l : Last)
-    → ((x : Placed) (xs : List Placed) → SectorsFrom t m start (x ∷ xs) → SectorsFrom t m (l .place) (lastOf x xs ∷ []) × (l .position ≡ suc (length xs)))
-    → asSectorAt (l .sector) ≡ sectorAt (l .place) (cells t m) → LastRead rule t m start r l
+-- What is read at its place is the last sector.
+pub last-read : (rule : GapRule) (t m : List ℕ) (start : ℕ) (r : Readable t m start) (at n : ℕ) (l : SectorCode)
+    → ((x : Placed) (xs : List Placed) → SectorsFrom t m start (x ∷ xs) → SectorsFrom t m at (lastOf x xs ∷ []) × (n ≡ suc (length xs)))
+    → asSectorAt l ≡ sectorAt at (cells t m) → LastRead rule t m start r n l
 unfolding gapAfter
-last-read rule t m start r l g e =
+last-read rule t m start r at n l g e =
     let z = all-sectors t m start r in
     let h = g (z .x) (z .xs) (z .steps) in
     let v = h .0 .0 in
-    let kl : l .sector .«key_length» ≡ length (lastOf (z .x) (z .xs) .sector .keyBytes) = ap (λ (w : SectorAt). w .keyLength) e ∙ v .key-length-is in
-    let dl : l .sector .«data_length» ≡ length (lastOf (z .x) (z .xs) .sector .dataBytes) = ap (λ (w : SectorAt). w .dataLength) e ∙ v .data-length-is in
-    let end : l .sector .end ≡ endOf (lastOf (z .x) (z .xs)) = ap (λ (w : SectorAt). w .end) e ∙ v .end-is in
+    let kl : l .«key_length» ≡ length (lastOf (z .x) (z .xs) .sector .keyBytes) = ap (λ (w : SectorAt). w .keyLength) e ∙ v .key-length-is in
+    let dl : l .«data_length» ≡ length (lastOf (z .x) (z .xs) .sector .dataBytes) = ap (λ (w : SectorAt). w .dataLength) e ∙ v .data-length-is in
+    let end : l .end ≡ endOf (lastOf (z .x) (z .xs)) = ap (λ (w : SectorAt). w .end) e ∙ v .end-is in
     record {
       x = z .x;
       xs = z .xs;
@@ -191,11 +191,11 @@ last-read rule t m start r l g e =
     }
 
 -- The sector that is written behind it.
-pub added-made : (rule : GapRule) (t m : List ℕ) (start : ℕ) (r : Readable t m start) (l : Last) (v : LastRead rule t m start r l) (h : Home) (flag b7 s : ℕ) (key body : List ℕ)
-    → flag ≡ addedFlag (h .flag) (l .position) b7
-    → sectorFrom false flag (l .sector .address .cylinder) (l .sector .address .head) s key body ≡ addedSector h (suc (0 + length (v .xs))) (lastOf (v .x) (v .xs)) b7 s key body
+pub added-made : (rule : GapRule) (t m : List ℕ) (start : ℕ) (r : Readable t m start) (n : ℕ) (l : SectorCode) (v : LastRead rule t m start r n l) (h : Home) (flag b7 s : ℕ) (key body : List ℕ)
+    → flag ≡ addedFlag (h .flag) n b7
+    → sectorFrom false flag (l .address .cylinder) (l .address .head) s key body ≡ addedSector h (suc (0 + length (v .xs))) (lastOf (v .x) (v .xs)) b7 s key body
 unfolding addedSector
-added-made rule t m start r l v h flag b7 s key body e =
-    let at : l .position ≡ suc (0 + length (v .xs)) = omega (arith, v .position-is) in
+added-made rule t m start r n l v h flag b7 s key body e =
+    let at : n ≡ suc (0 + length (v .xs)) = omega (arith, v .position-is) in
     let fl : flag ≡ addedFlag (h .flag) (suc (0 + length (v .xs))) b7 = e ∙ ap (λ (i : ℕ). addedFlag (h .flag) i b7) at in
     λ j. record { first = false; flag = fl j; address = v .address-is j; number = s; keyBytes = key; dataBytes = body }

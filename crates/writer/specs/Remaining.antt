@@ -1,6 +1,6 @@
 -- The sectors that remain of an accepted track from a place on, as the writing loops step over them.
 use mathlib.Core.Path.{_≡_}
-use Prim.Native.Nat.{ℕ, _+_, _-_, _≤_, _<_}
+use Prim.Native.Nat.{ℕ, suc, _+_, _-_, _≤_, _<_}
 use mathlib.Core.Bool.{true}
 use mathlib.Core.List.{List, [], _∷_}
 use lib.ListN.{length}
@@ -9,13 +9,13 @@ use Rattle.format.specs.Judged.{good}
 use Rattle.format.specs.Lent.{cells}
 use Rattle.format.specs.Home.{firstCountPlace}
 use Rattle.format.specs.Span.{joined, none}
-use Rattle.format.specs.Accept.{Placed, Accepted, accept, fromNumber, sectorsOf}
+use Rattle.format.specs.Accept.{Placed, Accepted, accept, fromNumber, lastOf, sectorsOf}
 use Rattle.format.specs.GapRule.{GapRule, gapBy, ruleRight}
 use Rattle.format.specs.Written.{reach, writtenSpans}
 use Rattle.format.specs.Correct.{withContent}
 use Rattle.sectors.specs.declared.SectorAt.{SectorAt}
 use Rattle.sectors.specs.SectorAt.{lastFirstCount, sectorAt, asSectorAt}
-use Rattle.sectors.specs.From.{Remaining}
+use Rattle.sectors.specs.From.{SectorsFrom, Remaining}
 
 -- The track t with the marks m is accepted, and its sector 0 opens at place `start`.
 pub record Readable (t m : List ℕ) (start : ℕ) : Type 0 where
@@ -28,10 +28,11 @@ pub record ReadableFlag (t m : List ℕ) (start f : ℕ) : Type 0 where
   pub readable : Readable t m start
   pub flag-is : f ≡ readable .accepted .home .flag
 
--- Such a track on which no sector carries S.
-pub record Addable (t m : List ℕ) (start f s : ℕ) : Type 0 where
+-- Such a track on which no sector carries S, with n sectors, the last of them at place `at`.
+pub record Addable (t m : List ℕ) (start at n f s : ℕ) : Type 0 where
   pub flagged : ReadableFlag t m start f
   pub absent : fromNumber s (flagged .readable .accepted .sectors) ≡ []
+  pub last-is : (x : Placed) (xs : List Placed) → SectorsFrom t m start (x ∷ xs) → SectorsFrom t m at (lastOf x xs ∷ []) × (n ≡ suc (length xs))
 
 -- The sector x is what is read at place q before index, and sectors remain from there on.
 pub record ReadAt (t m : List ℕ) (q : ℕ) (x : SectorAt) : Type 0 where

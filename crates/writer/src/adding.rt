@@ -54,7 +54,7 @@ fn write_added(
     put_span(out, out_marks, to, l, false, flag, a, s, key, body);
 }
 
-// Add behind the last sector of an accepted track on which no sector carries S: 15, and then the new track is written.
+// Add behind the last of the `count` sectors of an accepted track, at place `at`, where no sector carries S: 15, and then the new track is written.
 fn add_behind(
     rule: encode::GapRule,
     track: &[u8],
@@ -62,28 +62,30 @@ fn add_behind(
     out: &mut [u8],
     out_marks: &mut [u8],
     start: usize,
+    at: usize,
+    count: usize,
     f: u8,
     b7: u8,
     s: u8,
     key: &[u8],
     body: &[u8],
 ) -> format::Answer
-    requires { ⌜ Addable (now track) (now marks) start f s ⌝ }
+    requires { ⌜ Addable (now track) (now marks) start at count f s ⌝ }
     requires { ⌜ (b7 ≤ 1) × (wantedRight (asRule rule) (now key) (now body) ≡ true) ⌝ }
     requires { ⌜ (length (now out) ≡ length (now track)) × (length (now «out_marks») ≡ length (now track)) ⌝ }
     ensures { λ r. ⌜ after (asAnswer r) (now (out .exit)) (now («out_marks» .exit)) ≡ leaves (asPair (addCells (asRule rule) (cells (now (track .entry)) (now (marks .entry))) b7 s (now (key .entry)) (now (body .entry)))) (now (out .entry)) (now («out_marks» .entry)) ⌝ }
 {
-    let last = sectors::last_of(track, marks, start);
-    let kl = last.sector.key_length as u8;
-    let dl = last.sector.data_length as u16;
-    let end = last.sector.end;
+    let last = sectors::sector_at(track, marks, at);
+    let kl = last.key_length as u8;
+    let dl = last.data_length as u16;
+    let end = last.end;
     let to = end + encode::gap_after(rule, kl, dl);
     let n = encode::sector_size(false, key.len() as u8, body.len() as u16);
     let room = judge_room(track.len(), to + n);
     if room.number == 0 {
-        let i = last.position as u8;
+        let i = count as u8;
         let flag = added_flag(f, i, b7);
-        let a = last.sector.address;
+        let a = last.address;
         write_added(track, marks, out, out_marks, end, to, flag, a, s, key, body);
     }
     room
@@ -113,9 +115,9 @@ fn add_on(
     if !wanted_right(rule, key, body) {
         return format::wanted_wrong();
     }
-    let sought = sectors::place_of(track, marks, start, s);
-    if sought.place < track.len() {
-        return format::sector_repeated(sought.place);
+    let found = sectors::search_from(track, marks, start, s);
+    if found.place < track.len() {
+        return format::sector_repeated(found.place);
     }
     add_behind(
         rule,
@@ -124,6 +126,8 @@ fn add_on(
         out,
         out_marks,
         start,
+        found.before,
+        found.count,
         f,
         b7,
         s,

@@ -17,38 +17,38 @@ abbrev μ-loop : tie.MeasureT-loop
 loop-holds : tie.Need-loop-holds Inv-loop μ-loop
 loop-holds c = let a = c .before .before .args in count-start (a .track .now) (a .marks .now) (a .start)
 
-sector-at-requires : tie.Need-sector-at-requires Inv-loop μ-loop
-sector-at-requires c κs = search needs
+step-at-requires : tie.Need-step-at-requires Inv-loop μ-loop
+step-at-requires c κs = search needs
 
 returns : tie.Need-returns Inv-loop μ-loop
 returns c =
     let a = c .before .before .before .before .before .before .args in
     let o = c .before .before .before .loop in
-    let x = c .before .before .sector-at in
+    let x = c .before .before .step-at in
     count-end (a .track .now) (a .marks .now) (a .start) (o .p) (o .n) (o .inv) (x .result) (x .ensures) (c .if1 .taken)
 
 add-n : tie.Need-add-n Inv-loop μ-loop
 add-n c =
     let a = c .before .before .before .before .before .before .args in
     let o = c .before .before .before .loop in
-    let x = c .before .before .sector-at in
+    let x = c .before .before .step-at in
     omega (arith, o .inv .0, onward (a .track .now) (a .marks .now) (o .p) (x .result) (x .ensures) (c .if1 .left))
 
 loop-less : tie.Need-loop-less Inv-loop μ-loop
 loop-less c =
     let a = c .before .before .before .before .before .before .args in
     let o = c .before .before .before .loop in
-    let x = c .before .before .sector-at in
+    let x = c .before .before .step-at in
     omega (arith, c .if1 .left, onward (a .track .now) (a .marks .now) (o .p) (x .result) (x .ensures) (c .if1 .left))
 
 loop-again : tie.Need-loop-again Inv-loop μ-loop
 loop-again c =
     let a = c .before .before .before .before .before .before .args in
     let o = c .before .before .before .loop in
-    let x = c .before .before .sector-at in
+    let x = c .before .before .step-at in
     count-next (a .track .now) (a .marks .now) (a .start) (o .p) (o .n) (o .inv) (x .result) (x .ensures) (c .if1 .left)
 
 pub sector-count-spec : {M : Type 1} → statement M
 sector-count-spec =
     tie.close
-    (tie.spec Inv-loop μ-loop loop-holds sector-at-requires returns add-n loop-less loop-again)
+    (tie.spec Inv-loop μ-loop loop-holds step-at-requires returns add-n loop-less loop-again)

@@ -24,8 +24,8 @@ use borrow.Author.Needs.{needs}
 use Rattle.writer.proofs.adding.add_behind.Statement.{statement}
 use Rattle.writer.proofs.adding.add_behind.Tie as tie
 
-last-of-requires : tie.Need-last-of-requires
-last-of-requires c κs = search needs
+sector-at-requires : tie.Need-sector-at-requires
+sector-at-requires c κs = search needs
 
 cast-kl : tie.Need-cast-kl
 cast-kl c =
@@ -33,9 +33,10 @@ cast-kl c =
     let rule = asRule (a .rule) in
     let t = a .track .now in
     let m = a .marks .now in
-    let r = c .before .before .before .before .before .before .before .before .pre .0 .flagged .readable in
-    let last = c .before .last-of in
-    let v = last-read rule t m (a .start) r (last .result) (last .ensures .0) (last .ensures .1) in
+    let z = c .before .before .before .before .before .before .before .before .pre .0 in
+    let r = z .flagged .readable in
+    let last = c .before .sector-at in
+    let v = last-read rule t m (a .start) r (a .at) (a .count) (last .result) (z .last-is) (last .ensures) in
     omega (arith, v .key-fits)
 
 cast-dl : tie.Need-cast-dl
@@ -44,9 +45,10 @@ cast-dl c =
     let rule = asRule (a .rule) in
     let t = a .track .now in
     let m = a .marks .now in
-    let r = c .before .before .before .before .before .before .before .before .before .pre .0 .flagged .readable in
-    let last = c .before .before .last-of in
-    let v = last-read rule t m (a .start) r (last .result) (last .ensures .0) (last .ensures .1) in
+    let z = c .before .before .before .before .before .before .before .before .before .pre .0 in
+    let r = z .flagged .readable in
+    let last = c .before .before .sector-at in
+    let v = last-read rule t m (a .start) r (a .at) (a .count) (last .result) (z .last-is) (last .ensures) in
     omega (arith, v .data-fits)
 
 gap-after-requires : tie.Need-gap-after-requires
@@ -58,12 +60,13 @@ add-to c =
     let rule = asRule (a .rule) in
     let t = a .track .now in
     let m = a .marks .now in
-    let r = c .before .before .before .before .before .before .before .before .before .before .pre .0 .flagged .readable in
-    let last = c .before .before .before .last-of in
-    let v = last-read rule t m (a .start) r (last .result) (last .ensures .0) (last .ensures .1) in
+    let z = c .before .before .before .before .before .before .before .before .before .before .pre .0 in
+    let r = z .flagged .readable in
+    let last = c .before .before .before .sector-at in
+    let v = last-read rule t m (a .start) r (a .at) (a .count) (last .result) (z .last-is) (last .ensures) in
     let right = wanted-parts rule (a .key .now) (a .body .now) (c .before .before .before .before .before .before .before .before .before .before .pre .1 .0 .1) .0 in
-    let by : c .gap-after .result ≡ gapBy rule (last .result .sector .«key_length») (last .result .sector .«data_length») = c .gap-after .ensures in
-    omega (arith, by, rule-most rule right (last .result .sector .«key_length») (last .result .sector .«data_length»), v .key-fits, v .data-fits, v .end-inside, readable-remaining t m (a .start) r .length-most)
+    let by : c .gap-after .result ≡ gapBy rule (last .result .«key_length») (last .result .«data_length») = c .gap-after .ensures in
+    omega (arith, by, rule-most rule right (last .result .«key_length») (last .result .«data_length»), v .key-fits, v .data-fits, v .end-inside, readable-remaining t m (a .start) r .length-most)
 
 cast-sector-size : tie.Need-cast-sector-size
 cast-sector-size c =
@@ -86,41 +89,43 @@ add-judge-room c =
     let rule = asRule (a .rule) in
     let t = a .track .now in
     let m = a .marks .now in
-    let r = c .before .before .before .before .before .before .before .before .before .before .before .pre .0 .flagged .readable in
-    let last = c .before .before .before .before .last-of in
-    let v = last-read rule t m (a .start) r (last .result) (last .ensures .0) (last .ensures .1) in
+    let z = c .before .before .before .before .before .before .before .before .before .before .before .pre .0 in
+    let r = z .flagged .readable in
+    let last = c .before .before .before .before .sector-at in
+    let v = last-read rule t m (a .start) r (a .at) (a .count) (last .result) (z .last-is) (last .ensures) in
     let h = wanted-bounds (asRule (a .rule)) (a .key .now) (a .body .now) (c .before .before .before .before .before .before .before .before .before .before .before .pre .1 .0 .1) in
     let right = wanted-parts rule (a .key .now) (a .body .now) (c .before .before .before .before .before .before .before .before .before .before .before .pre .1 .0 .1) .0 in
-    omega (arith, h, c .before .gap-after .ensures, rule-most rule right (last .result .sector .«key_length») (last .result .sector .«data_length»), c .sector-size .ensures, size-most false (length (a .key .now)) (length (a .body .now)), v .key-fits, v .data-fits, v .end-inside, readable-remaining t m (a .start) r .length-most)
+    omega (arith, h, c .before .gap-after .ensures, rule-most rule right (last .result .«key_length») (last .result .«data_length»), c .sector-size .ensures, size-most false (length (a .key .now)) (length (a .body .now)), v .key-fits, v .data-fits, v .end-inside, readable-remaining t m (a .start) r .length-most)
 
 judge-room-requires : tie.Need-judge-room-requires
 judge-room-requires c κs = let a = c .before .before .before .before .before .before .before .before .before .before .before .args in omega (arith, readable-lengths (a .track .now) (a .marks .now) (a .start) (c .before .before .before .before .before .before .before .before .before .before .before .pre .0 .flagged .readable))
 
 cast-i : tie.Need-cast-i
 cast-i c =
-    let a = c .before .before .before .before .before .before .before .before .before .before .before .before .before .before .before .args in
+    let a = c .before .before .before .before .before .before .before .before .before .before .before .before .before .before .args in
     let rule = asRule (a .rule) in
     let t = a .track .now in
     let m = a .marks .now in
-    let r = c .before .before .before .before .before .before .before .before .before .before .before .before .before .before .before .pre .0 .flagged .readable in
-    let last = c .before .before .before .before .before .before .before .before .last-of in
-    let v = last-read rule t m (a .start) r (last .result) (last .ensures .0) (last .ensures .1) in
+    let z = c .before .before .before .before .before .before .before .before .before .before .before .before .before .before .pre .0 in
+    let r = z .flagged .readable in
+    let last = c .before .before .before .before .before .before .before .sector-at in
+    let v = last-read rule t m (a .start) r (a .at) (a .count) (last .result) (z .last-is) (last .ensures) in
     omega (arith, v .position-fits)
 
 added-flag-requires : tie.Need-added-flag-requires
-added-flag-requires c κs = c .before .before .before .before .before .before .before .before .before .before .before .before .before .before .before .pre .1 .0 .0
+added-flag-requires c κs = c .before .before .before .before .before .before .before .before .before .before .before .before .before .before .pre .1 .0 .0
 
 write-added-requires : tie.Need-write-added-requires
 write-added-requires c κs =
-    let a = c .before .before .before .before .before .before .before .before .before .before .before .before .before .before .before .before .before .before .before .args in
+    let a = c .before .before .before .before .before .before .before .before .before .before .before .before .before .before .before .before .before .before .args in
     let t = a .track .now in
-    let last = c .before .before .before .before .before .before .before .before .before .before .before .before .last-of in
-    let k = readable-lengths t (a .marks .now) (a .start) (c .before .before .before .before .before .before .before .before .before .before .before .before .before .before .before .before .before .before .before .pre .0 .flagged .readable) in
-    let judged = c .before .before .before .before .before .before .before .judge-room in
-    let size = c .before .before .before .before .before .before .before .before .sector-size in
-    let room = room-done (judged .result) (last .result .sector .end + c .before .before .before .before .before .before .before .before .before .gap-after .result + size .result) (length t) (judged .ensures) (c .before .before .before .before .before .if1 .taken) in
-    let long = c .before .before .before .before .before .before .before .before .before .before .before .before .before .before .before .before .before .before .before .pre .1 .1 in
-    (wanted-bounds (asRule (a .rule)) (a .key .now) (a .body .now) (c .before .before .before .before .before .before .before .before .before .before .before .before .before .before .before .before .before .before .before .pre .1 .0 .1), ((omega arith, omega (arith, room .0, size .ensures)), (k .1, long .0, long .1)))
+    let last = c .before .before .before .before .before .before .before .before .before .before .before .sector-at in
+    let k = readable-lengths t (a .marks .now) (a .start) (c .before .before .before .before .before .before .before .before .before .before .before .before .before .before .before .before .before .before .pre .0 .flagged .readable) in
+    let judged = c .before .before .before .before .before .before .judge-room in
+    let size = c .before .before .before .before .before .before .before .sector-size in
+    let room = room-done (judged .result) (last .result .end + c .before .before .before .before .before .before .before .before .gap-after .result + size .result) (length t) (judged .ensures) (c .before .before .before .before .if1 .taken) in
+    let long = c .before .before .before .before .before .before .before .before .before .before .before .before .before .before .before .before .before .before .pre .1 .1 in
+    (wanted-bounds (asRule (a .rule)) (a .key .now) (a .body .now) (c .before .before .before .before .before .before .before .before .before .before .before .before .before .before .before .before .before .before .pre .1 .0 .1), ((omega arith, omega (arith, room .0, size .ensures)), (k .1, long .0, long .1)))
 
 same-length : tie.Need-same-length
 same-length c = search needs
@@ -130,33 +135,34 @@ same-length-2 c = search needs
 
 returns : tie.Need-returns
 returns c =
-    let a = c .before .before .before .before .before .before .before .before .before .before .before .before .before .before .before .before .before .before .before .before .before .before .before .before .args in
+    let a = c .before .before .before .before .before .before .before .before .before .before .before .before .before .before .before .before .before .before .before .before .before .before .before .args in
     let rule = asRule (a .rule) in
     let t = a .track .now in
     let m = a .marks .now in
-    let r = c .before .before .before .before .before .before .before .before .before .before .before .before .before .before .before .before .before .before .before .before .before .before .before .before .pre .0 .flagged .readable in
-    let last = c .before .before .before .before .before .before .before .before .before .before .before .before .before .before .before .before .before .last-of in
-    let v = last-read rule t m (a .start) r (last .result) (last .ensures .0) (last .ensures .1) in
+    let z = c .before .before .before .before .before .before .before .before .before .before .before .before .before .before .before .before .before .before .before .before .before .before .before .pre .0 in
+    let r = z .flagged .readable in
+    let last = c .before .before .before .before .before .before .before .before .before .before .before .before .before .before .before .before .sector-at in
+    let v = last-read rule t m (a .start) r (a .at) (a .count) (last .result) (z .last-is) (last .ensures) in
     let u = readable-remaining t m (a .start) r in
     let k = readable-lengths t m (a .start) r in
-    let gap = c .before .before .before .before .before .before .before .before .before .before .before .before .before .before .gap-after in
-    let size = c .before .before .before .before .before .before .before .before .before .before .before .before .before .sector-size in
-    let end = last .result .sector .end in
+    let gap = c .before .before .before .before .before .before .before .before .before .before .before .before .before .gap-after in
+    let size = c .before .before .before .before .before .before .before .before .before .before .before .before .sector-size in
+    let end = last .result .end in
     let to = end + gap .result in
-    let judged = c .before .before .before .before .before .before .before .before .before .before .before .before .judge-room in
-    let room = room-done (judged .result) (to + size .result) (length t) (judged .ensures) (c .before .before .before .before .before .before .before .before .before .before .if1 .taken) in
+    let judged = c .before .before .before .before .before .before .before .before .before .before .before .judge-room in
+    let room = room-done (judged .result) (to + size .result) (length t) (judged .ensures) (c .before .before .before .before .before .before .before .before .before .if1 .taken) in
     let h = r .accepted .home in
     let wrote = c .before .before .before .before .write-added in
     let flag = c .before .before .before .before .before .before .before .before .added-flag in
-    let made : sectorFrom false (flag .result) (last .result .sector .address .cylinder) (last .result .sector .address .head) (a .s) (a .key .now) (a .body .now)
+    let made : sectorFrom false (flag .result) (last .result .address .cylinder) (last .result .address .head) (a .s) (a .key .now) (a .body .now)
     ≡ addedSector h (suc (0 + length (v .xs))) (lastOf (v .x) (v .xs)) (a .b7) (a .s) (a .key .now) (a .body .now) =
-    added-made rule t m (a .start) r (last .result) v h (flag .result) (a .b7) (a .s) (a .key .now) (a .body .now)
-    (flag .ensures ∙ ap (λ (n : ℕ). addedFlag n (last .result .position) (a .b7)) (c .before .before .before .before .before .before .before .before .before .before .before .before .before .before .before .before .before .before .before .before .before .before .before .before .pre .0 .flagged .flag-is)) in
+    added-made rule t m (a .start) r (a .count) (last .result) v h (flag .result) (a .b7) (a .s) (a .key .now) (a .body .now)
+    (flag .ensures ∙ ap (λ (n : ℕ). addedFlag n (a .count) (a .b7)) (c .before .before .before .before .before .before .before .before .before .before .before .before .before .before .before .before .before .before .before .before .before .before .before .pre .0 .flagged .flag-is)) in
     let W : ℕ → Sector → List ℕ = λ l n. replicate (to - end) 0xFF ++ filledSpan (l - to) n in
     let same = ap₂ W (sym (u .cells-length)) made in
-    let bytes : unmarked t ≡ true = unmarked-below t (λ i. omega (arith, c .before .before .before .before .before .before .before .before .before .before .before .before .before .before .before .before .before .before .before .before .before .before .before .shared-slice-known .given i)) in
+    let bytes : unmarked t ≡ true = unmarked-below t (λ i. omega (arith, c .before .before .before .before .before .before .before .before .before .before .before .before .before .before .before .before .before .before .before .before .before .before .shared-slice-known .given i)) in
     after-good _ _ _ (a .out .now) (a .out-marks .now) (wrote .last .1 .1 .0) (wrote .last .1 .1 .1 .0)
-    (add-done rule t m (a .start) r (a .b7) (a .s) (a .key .now) (a .body .now) (c .before .before .before .before .before .before .before .before .before .before .before .before .before .before .before .before .before .before .before .before .before .before .before .before .pre .1 .0 .0) (c .before .before .before .before .before .before .before .before .before .before .before .before .before .before .before .before .before .before .before .before .before .before .before .before .pre .1 .0 .1) (c .before .before .before .before .before .before .before .before .before .before .before .before .before .before .before .before .before .before .before .before .before .before .before .before .pre .0 .absent) (v .x) (v .xs) (v .all) end to
+    (add-done rule t m (a .start) r (a .b7) (a .s) (a .key .now) (a .body .now) (c .before .before .before .before .before .before .before .before .before .before .before .before .before .before .before .before .before .before .before .before .before .before .before .pre .1 .0 .0) (c .before .before .before .before .before .before .before .before .before .before .before .before .before .before .before .before .before .before .before .before .before .before .before .pre .1 .0 .1) (c .before .before .before .before .before .before .before .before .before .before .before .before .before .before .before .before .before .before .before .before .before .before .before .pre .0 .absent) (v .x) (v .xs) (v .all) end to
     (v .end-is) (ap (λ (n : ℕ). end + n) (gap .ensures ∙ v .gap-is)) (omega (arith, v .end-inside, u .cells-length))
     (omega (arith, room .0, size .ensures, u .cells-length)))
     (room .1)
@@ -169,13 +175,14 @@ returns-2 c =
     let rule = asRule (a .rule) in
     let t = a .track .now in
     let m = a .marks .now in
-    let r = c .before .before .before .before .before .before .before .before .before .before .before .before .before .before .pre .0 .flagged .readable in
-    let last = c .before .before .before .before .before .before .before .last-of in
-    let v = last-read rule t m (a .start) r (last .result) (last .ensures .0) (last .ensures .1) in
+    let z = c .before .before .before .before .before .before .before .before .before .before .before .before .before .before .pre .0 in
+    let r = z .flagged .readable in
+    let last = c .before .before .before .before .before .before .before .sector-at in
+    let v = last-read rule t m (a .start) r (a .at) (a .count) (last .result) (z .last-is) (last .ensures) in
     let u = readable-remaining t m (a .start) r in
     let gap = c .before .before .before .before .gap-after in
     let size = c .before .before .before .sector-size in
-    let end = last .result .sector .end in
+    let end = last .result .end in
     let to = end + gap .result in
     let judged = c .before .before .judge-room in
     let room = room-short (judged .result) (to + size .result) (length t) (judged .ensures) (c .if1 .left) in
@@ -189,7 +196,7 @@ pub add-behind-spec : {M : Type 1} → statement M
 add-behind-spec =
     tie.close
     (tie.spec
-    last-of-requires
+    sector-at-requires
     cast-kl
     cast-dl
     gap-after-requires

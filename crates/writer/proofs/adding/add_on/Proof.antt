@@ -1,7 +1,11 @@
 -- `add_on` meets its contract: 14 and 13 before anything is written, then Add behind the last sector.
 use mathlib.Core.Path.{sym, _∙_}
+use mathlib.Core.List.{_∷_}
+use native.Mathlib.Omega.{arith}
 use borrow.Author.Tests.{not-true, not-false}
 use Rattle.format.proofs.Written.Outcome.{after-refused}
+use Rattle.format.proofs.Track.Pairs.{length-cells}
+use Rattle.sectors.proofs.From.{steps-end}
 use Rattle.encode.specs.Gap.{asRule}
 use Rattle.writer.proofs.Corrected.{readable-steps, found-at, found-none}
 use Rattle.writer.proofs.Added.{add-overflow, add-wanted, add-repeated}
@@ -37,8 +41,8 @@ returns-2 c =
     after-refused _ _ _ (a .out .now) (a .out-marks .now)
     (add-wanted rule t m (a .start) r (a .b7) (a .s) (a .key .now) (a .body .now) (c .before .before .before .if1 .left) (sym (c .before .before .wanted-right .ensures) ∙ not-true _ (c .before .if2 .taken))) (c .wanted-wrong2 .ensures)
 
-place-of-requires : tie.Need-place-of-requires
-place-of-requires c κs = search needs
+search-from-requires : tie.Need-search-from-requires
+search-from-requires c κs = search needs
 
 sector-repeated-requires : tie.Need-sector-repeated-requires
 sector-repeated-requires c κs = search needs
@@ -50,7 +54,7 @@ returns-3 c =
     let t = a .track .now in
     let m = a .marks .now in
     let r = c .before .before .before .before .before .before .before .before .before .before .before .before .before .pre .0 .readable in
-    let found = c .before .before .before .place-of in
+    let found = c .before .before .before .search-from in
     let q = found .result .place in
     let z = found-at t m (a .start) q (a .s) r (found .ensures .0 (r .accepted .sectors) (readable-steps t m (a .start) r)) (c .before .if3 .taken) in
     after-refused _ _ _ (a .out .now) (a .out-marks .now)
@@ -63,11 +67,12 @@ add-behind-requires c κs =
     let t = a .track .now in
     let m = a .marks .now in
     let r = c .before .before .before .before .before .before .before .before .before .before .before .before .before .before .pre .0 .readable in
-    let found = c .before .before .before .before .place-of in
+    let found = c .before .before .before .before .search-from in
     let q = found .result .place in (
       record {
         flagged = c .before .before .before .before .before .before .before .before .before .before .before .before .before .before .pre .0;
         absent = found-none t m (a .start) q (a .s) r (found .ensures .0 (r .accepted .sectors) (readable-steps t m (a .start) r)) (c .before .before .if3 .left);
+        last-is = λ x xs f. found .ensures .1 x xs f (steps-end t m q _ (found .ensures .0 (x ∷ xs) f) (omega (arith, length-cells t m, c .before .before .if3 .left)));
       },
       ((c .before .before .before .before .before .before .before .if1 .left, sym (c .before .before .before .before .before .before .wanted-right .ensures) ∙ not-false _ (c .before .before .before .before .before .if2 .left)), c .before .before .before .before .before .before .before .before .before .before .before .before .before .before .pre .1),
     )
@@ -90,7 +95,7 @@ add-on-spec =
     wanted-right-requires
     wanted-wrong-requires-2
     returns-2
-    place-of-requires
+    search-from-requires
     sector-repeated-requires
     returns-3
     add-behind-requires
