@@ -1,5 +1,5 @@
 -- What follows a count's opening in its span, as bytes of the lent track.
-use mathlib.Core.Path.{_≡_, sym, ap, _∙_}
+use mathlib.Core.Path.{_≡_, refl, sym, ap, ap₂, _∙_}
 use Prim.Native.Nat.{ℕ, _+_, _-_, _≤_, _<_}
 use native.Mathlib.Omega.{arith}
 use mathlib.Core.Bool.{Bool, true, false}
@@ -7,7 +7,7 @@ use mathlib.Core.List.{List, []}
 use lib.ListN.{length, take, drop, length-drop}
 use lib.Seq.{drop-drop, take-append-le, drop-append-le}
 use lib.Dec.{leb, eqb}
-use borrow.Author.Tests.{le-leb, lt-leb, leb-true, eq-eqb, ne-eqb}
+use borrow.Author.Tests.{le-leb, lt-leb, leb-true, leb-false, eq-eqb, ne-eqb}
 use Rattle.base.specs.Pick.{pick}
 use Rattle.format.specs.Lent.{cells}
 use Rattle.format.specs.Count.{countFlag, countAddress, countNumber, keyLength, dataLength}
@@ -47,6 +47,14 @@ pub opens-high : (p : ℕ) → lastFirstCount < p → opensFirst p ≡ false
 unfolding opensFirst
 opens-high p h = lt-leb p lastFirstCount h
 
+-- Places out of order give no bytes,
+pub bounds-none : (from to : ℕ) → to < from → (0 ≡ pick (leb from to) from 0) × (0 ≡ pick (leb from to) to 0)
+bounds-none from to h = rw (lt-leb from to h) (refl, refl)
+
+-- and others are the bounds.
+pub bounds-some : (from to : ℕ) → from ≤ to → (from ≡ pick (leb from to) from 0) × (to ≡ pick (leb from to) to 0)
+bounds-some from to h = rw (le-leb from to h) (refl, refl)
+
 -- The opening of the count at place p has o cells, and its span n.
 module _ (t m : List ℕ) (p o n : ℕ) (w : o ≡ openingLength (opensFirst p)) (s : n ≡ spanLength o (drop p (cells t m))) where
   -- The span ends with the track at the latest.
@@ -66,6 +74,24 @@ module _ (t m : List ℕ) (p o n : ℕ) (w : o ≡ openingLength (opensFirst p))
   pub rest-bytes : take (p + n - (p + o)) (drop (p + o) t) ≡ restAt p (cells t m)
   unfolding restAt
   rest-bytes = sym (span-rest-bytes o p (p + n - (p + o)) t m (omega arith)) ∙ ap (λ (i : ℕ). spanRest i (drop p (cells t m))) w
+
+  -- The bounds of what follows it, or none where the span ends before its opening does.
+  module _ (a b : ℕ) (f : (a ≡ pick (leb (p + o) (p + n)) (p + o) 0) × (b ≡ pick (leb (p + o) (p + n)) (p + n) 0)) where
+    -- They stand in order within the track,
+    pub bounds-within : (a ≤ b) × (b ≤ length t)
+    bounds-within =
+        cases (leb (p + o) (p + n))
+        (λ h. let f′ : (a ≡ p + o) × (b ≡ p + n) = rw h at f in let l = leb-true (p + o) (p + n) h in
+        (omega (arith, l, f′ .0, f′ .1), omega (arith, l, f′ .1, span-within, w, opening-least (opensFirst p))))
+        (λ h. let f′ : (a ≡ 0) × (b ≡ 0) = rw h at f in (omega (arith, f′ .0), omega (arith, f′ .1)))
+
+    -- and between them stand its bytes.
+    pub bounds-bytes : take (b - a) (drop a t) ≡ restAt p (cells t m)
+    bounds-bytes =
+        cases (leb (p + o) (p + n))
+        (λ h. let f′ : (a ≡ p + o) × (b ≡ p + n) = rw h at f in ap₂ (λ (i j : ℕ). take (j - i) (drop i t)) (f′ .0) (f′ .1) ∙ rest-bytes)
+        (λ h. let f′ : (a ≡ 0) × (b ≡ 0) = rw h at f in
+        ap₂ (λ (i j : ℕ). take (j - i) (drop i t)) (f′ .0) (f′ .1) ∙ rest-none (omega (arith, leb-false (p + o) (p + n) h)))
 
   -- The sector at place p by what follows the opening.
   pub sector-here : p ≤ 4002 → (last : Bool) → last ≡ runsToIndex o (drop p (cells t m)) → (r : List ℕ) → r ≡ restAt p (cells t m)

@@ -1,6 +1,8 @@
 // Stepping over the sectors of a track, from the place of one count to the place of the next.
 ghost use mathlib.Core.Path.{_≡_};
 ghost use Prim.Native.Nat.{_≤_};
+ghost use lib.Dec.{leb};
+ghost use Rattle.base.specs.Pick.{pick};
 ghost use Rattle.format.specs.Lent.{cells};
 ghost use Rattle.sectors.specs.SectorAt.{sectorFields, opensFirst, sectorAt, asSectorAt};
 
@@ -65,6 +67,22 @@ fn sector_in(q: usize, next: usize, last: bool, r: &[u8]) -> SectorAt
     }
 }
 
+// The places from which and up to which bytes are taken.
+struct Bounds {
+    from: usize,
+    to: usize,
+}
+
+// These places, or no bytes where the second stands before the first.
+fn in_order(from: usize, to: usize) -> Bounds
+    ensures { λ r. ⌜ (r .from ≡ pick (leb from to) from 0) × (r .to ≡ pick (leb from to) to 0) ⌝ }
+{
+    if to < from {
+        return Bounds { from: 0, to: 0 };
+    }
+    Bounds { from, to }
+}
+
 // Whether the count that opens at place p is sector 0's.
 pub fn opens_first(p: usize) -> bool
     ensures { λ b. ⌜ b ≡ opensFirst p ⌝ }
@@ -99,8 +117,8 @@ pub fn sector_at(track: &[u8], marks: &[u8], p: usize) -> SectorAt
     let n = span.length;
     let from = p + o;
     let next = p + n;
-    if n < o {
-        return sector_in(from, next, span.last, &track[0..0]);
-    }
-    sector_in(from, next, span.last, &track[from..next])
+    let rest = in_order(from, next);
+    let start = rest.from;
+    let end = rest.to;
+    sector_in(from, next, span.last, &track[start..end])
 }

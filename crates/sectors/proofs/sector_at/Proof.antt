@@ -1,12 +1,10 @@
 -- `sector_at` meets its contract: what follows the opening in the span is bytes of the track.
 use mathlib.Core.Path.{ap, _∙_}
-use mathlib.Core.List.{[]}
 use native.Mathlib.Omega.{arith}
 use Rattle.format.specs.Lent.{cells}
 use Rattle.format.specs.Sector.{openingLength}
-use Rattle.sectors.specs.SectorAt.{opensFirst}
 use Rattle.sector.proofs.Block.{opening-le}
-use Rattle.sectors.proofs.Rest.{opening-least, span-within, rest-none, rest-bytes, sector-here, sector-past}
+use Rattle.sectors.proofs.Rest.{span-within, bounds-within, bounds-bytes, sector-here, sector-past}
 use borrow.Author.Needs.{needs}
 use Rattle.sectors.proofs.sector_at.Statement.{statement}
 use Rattle.sectors.proofs.sector_at.Tie as tie
@@ -33,14 +31,29 @@ add-next c =
     let w = c .before .opening-length .ensures ∙ ap openingLength (c .before .before .opens-first .ensures) in
     omega (arith, span-within (a .track .now) (a .marks .now) (a .p) _ _ w (s .0))
 
+in-order-requires : tie.Need-in-order-requires
+in-order-requires c κs = search needs
+
 sub-sector-in : tie.Need-sub-sector-in
-sub-sector-in c = search needs
+sub-sector-in c =
+    let a = c .before .before .before .before .before .before .before .args in
+    let s = c .before .span-at .ensures in
+    let w = c .before .before .opening-length .ensures ∙ ap openingLength (c .before .before .before .opens-first .ensures) in
+    omega (arith, bounds-within (a .track .now) (a .marks .now) (a .p) _ _ w (s .0) _ _ (c .in-order .ensures))
 
 part-sector-in-start : tie.Need-part-sector-in-start
-part-sector-in-start c = search needs
+part-sector-in-start c =
+    let a = c .before .before .before .before .before .before .before .args in
+    let s = c .before .span-at .ensures in
+    let w = c .before .before .opening-length .ensures ∙ ap openingLength (c .before .before .before .opens-first .ensures) in
+    omega (arith, bounds-within (a .track .now) (a .marks .now) (a .p) _ _ w (s .0) _ _ (c .in-order .ensures))
 
 part-sector-in-end : tie.Need-part-sector-in-end
-part-sector-in-end c = search needs
+part-sector-in-end c =
+    let a = c .before .before .before .before .before .before .before .args in
+    let s = c .before .span-at .ensures in
+    let w = c .before .before .opening-length .ensures ∙ ap openingLength (c .before .before .before .opens-first .ensures) in
+    omega (arith, bounds-within (a .track .now) (a .marks .now) (a .p) _ _ w (s .0) _ _ (c .in-order .ensures))
 
 sector-in-requires : tie.Need-sector-in-requires
 sector-in-requires c κs = omega (arith, opening-le (c .before .before .before .before .opens-first .result))
@@ -51,33 +64,8 @@ returns-2 c =
     let s = c .before .before .before .span-at .ensures in
     let w = c .before .before .before .before .opening-length .ensures ∙ ap openingLength (c .before .before .before .before .before .opens-first .ensures) in
     c .sector-in .ensures
-    ∙ sector-here (a .track .now) (a .marks .now) (a .p) _ _ w (s .0) (omega arith) _ (s .1 .0) []
-    (rest-none (a .track .now) (a .marks .now) (a .p) _ _ w (s .0) (c .before .before .if2 .taken))
-
-sub-sector-in-2 : tie.Need-sub-sector-in-2
-sub-sector-in-2 c = search needs
-
-part-sector-in-start-2 : tie.Need-part-sector-in-start-2
-part-sector-in-start-2 c = search needs
-
-part-sector-in-end-2 : tie.Need-part-sector-in-end-2
-part-sector-in-end-2 c =
-    let a = c .before .before .before .before .before .before .before .args in
-    let s = c .before .span-at .ensures in
-    let w = c .before .before .opening-length .ensures ∙ ap openingLength (c .before .before .before .opens-first .ensures) in
-    omega (arith, span-within (a .track .now) (a .marks .now) (a .p) _ _ w (s .0), opening-least (opensFirst (a .p)))
-
-sector-in-requires-2 : tie.Need-sector-in-requires-2
-sector-in-requires-2 c κs = omega (arith, opening-le (c .before .before .before .before .opens-first .result))
-
-returns-3 : tie.Need-returns-3
-returns-3 c =
-    let a = c .before .before .before .before .before .before .before .before .before .args in
-    let s = c .before .before .before .span-at .ensures in
-    let w = c .before .before .before .before .opening-length .ensures ∙ ap openingLength (c .before .before .before .before .before .opens-first .ensures) in
-    c .sector-in2 .ensures
     ∙ sector-here (a .track .now) (a .marks .now) (a .p) _ _ w (s .0) (omega arith) _ (s .1 .0) _
-    (rest-bytes (a .track .now) (a .marks .now) (a .p) _ _ w (s .0))
+    (bounds-bytes (a .track .now) (a .marks .now) (a .p) _ _ w (s .0) _ _ (c .before .before .in-order .ensures))
 
 pub sector-at-spec : {M : Type 1} → statement M
 sector-at-spec =
@@ -89,13 +77,9 @@ sector-at-spec =
     span-at-requires
     add-from
     add-next
+    in-order-requires
     sub-sector-in
     part-sector-in-start
     part-sector-in-end
     sector-in-requires
-    returns-2
-    sub-sector-in-2
-    part-sector-in-start-2
-    part-sector-in-end-2
-    sector-in-requires-2
-    returns-3)
+    returns-2)
