@@ -35,7 +35,7 @@ unfolding candidatesFrom
 past-nil h p q = refl
 
 -- and so are n of them.
-candidates-past : (h : Judged ℕ) (n p : ℕ) (c : List ℕ) → Closed n c → FirstElsewhere h p (p + n) → candidatesFrom h p c ≡ candidatesFrom h (p + n) (drop n c)
+pub candidates-past : (h : Judged ℕ) (n p : ℕ) (c : List ℕ) → Closed n c → FirstElsewhere h p (p + n) → candidatesFrom h p c ≡ candidatesFrom h (p + n) (drop n c)
 candidates-past h zero p c k f = ap (λ (q : ℕ). candidatesFrom h q c) (omega arith)
 candidates-past h (suc n) p [] k f = past-nil h p (p + suc n)
 candidates-past h (suc n) p (x ∷ c) k f =
@@ -52,12 +52,12 @@ places-past h p r c l u f =
     ∙ ap (λ (q : ℕ). candidatesFrom h q (drop q c)) n
 
 -- Sector 0's count opens nowhere without home,
-first-nowhere : (a : Answer) (p r : ℕ) → FirstElsewhere (refused a) p r
+pub first-nowhere : (a : Answer) (p r : ℕ) → FirstElsewhere (refused a) p r
 unfolding firstOpensAt
 first-nowhere a p r s c l u = refl
 
 -- and with home at no place but its own.
-first-outside : (h p r : ℕ) → (p ≤ firstCountPlace h → firstCountPlace h < r → ⊥) → FirstElsewhere (good h) p r
+pub first-outside : (h p r : ℕ) → (p ≤ firstCountPlace h → firstCountPlace h < r → ⊥) → FirstElsewhere (good h) p r
 first-outside h p r n s c l u = first-elsewhere h s c (λ e. n (omega arith) (omega arith))
 
 found-by : (c : List ℕ) (h : ℕ) → findHome c ≡ good h → h ≤ 37

@@ -2,6 +2,7 @@
 pub mod CandidateParts
 pub mod CandidateNext
 pub mod CandidatePlaces
+pub mod CandidateBehind
 pub mod FindSteps
 pub mod FindPart
 pub mod FindPair

@@ -8,7 +8,11 @@ ghost use Rattle.format.specs.Candidate.{firstOpensAt, candidatesFrom};
 ghost use Rattle.search.specs.Place.{judgedPlace};
 ghost use Rattle.reader.specs.Finding.{standing, passing, standingAt};
 use format::layout::COUNT_TAIL;
+use format::layout::HOME_LAST;
 use format::layout::HOME_TO_COUNT;
+
+// The last place at which sector 0's count opens.
+pub const LAST_FIRST_COUNT: usize = HOME_LAST + HOME_TO_COUNT;
 
 // A count that opens: its place, is it sector 0's, does its span run to index, and how many bytes follow the opening in the span.
 pub struct Candidate {

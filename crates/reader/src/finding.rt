@@ -2,6 +2,10 @@
 ghost use mathlib.Core.Path.{_≡_};
 ghost use Prim.Native.Nat.{_+_, _≤_};
 ghost use lib.ListN.{length, take, drop};
+ghost use lib.Dec.{leb};
+ghost use Rattle.base.specs.Pick.{pick};
+ghost use Rattle.format.specs.Layout.{homeLast, markedLength};
+ghost use Rattle.format.specs.Home.{firstCountPlace};
 ghost use Rattle.format.specs.Answer.{asAnswer};
 ghost use Rattle.format.specs.Judged.{answerOf};
 ghost use Rattle.format.specs.Lent.{cells};
@@ -9,12 +13,14 @@ ghost use Rattle.format.specs.Candidate.{candidatesFrom};
 ghost use Rattle.format.specs.Find.{carrying, candidatePart, findCells, find};
 ghost use Rattle.format.specs.Blocks.{partAt, partIn, blocksAt, wantedPart};
 ghost use Rattle.format.specs.Sector.{openingLength};
-ghost use Rattle.search.specs.Place.{judgedPlace};
+ghost use Rattle.search.specs.Place.{judgedPlace, inWindow};
 ghost use Rattle.reader.specs.Finding.{asCandidate, standing, asWanted, asPart, judgedPart, partWithin, handedOut};
 use crate::candidate::Candidate;
+use crate::candidate::LAST_FIRST_COUNT;
 use crate::candidate::Standing;
 use crate::candidate::next_candidate;
 use crate::candidate::rest_of;
+use format::layout::MARKED;
 use format::layout::PLAIN;
 
 // The part of a sector that is asked for.
@@ -45,18 +51,31 @@ fn part_at(p: usize, n: usize) -> Part
     Part { start: p, size: n }
 }
 
+// Where the search goes on behind a candidate of which `size` bytes follow the opening: behind sector 0's last place at the end of its span, as none opens before it.
+fn place_behind(place: usize, size: usize) -> usize
+    requires { ⌜ place + size ≤ 9223372036854775807 ⌝ }
+    ensures { λ r. ⌜ r ≡ pick (leb place (firstCountPlace homeLast)) (place + 1) (place + markedLength + size) ⌝ }
+{
+    if place <= LAST_FIRST_COUNT {
+        return place + 1;
+    }
+    place + MARKED + size
+}
+
 // The first candidate at place `from` or later that carries S, if there is one.
 fn next_carrying(track: &[u8], marks: &[u8], home: search::Found, from: usize, s: u8) -> Standing
+    requires { ⌜ inWindow home ⌝ }
     ensures { λ r. ⌜ standing (now (track .entry)) r ≡ take 1 (carrying s (candidatesFrom (judgedPlace home) from (drop from (cells (now (track .entry)) (now (marks .entry)))))) ⌝ }
 {
     let mut p = from;
     loop {
         match next_candidate(track, marks, home, p) {
             Standing::Stands(x) => {
-                if sector::byte_at(rest_of(track, x), 5) == s {
+                let rest = rest_of(track, x);
+                if sector::byte_at(rest, 5) == s {
                     return Standing::Stands(x);
                 }
-                p = x.place + 1;
+                p = place_behind(x.place, rest.len());
             }
             Standing::Not => return Standing::Not,
         }

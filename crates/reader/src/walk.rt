@@ -7,14 +7,10 @@ ghost use Rattle.format.specs.Candidate.{candidatesFrom, candidates};
 ghost use Rattle.format.specs.Walk.{nextFrom, step};
 ghost use Rattle.search.specs.Place.{judgedPlace};
 ghost use Rattle.reader.specs.Finding.{judgedVisit};
+use crate::candidate::LAST_FIRST_COUNT;
 use crate::candidate::Standing;
 use crate::candidate::next_candidate;
 use crate::candidate::rest_of;
-use format::layout::HOME_LAST;
-use format::layout::HOME_TO_COUNT;
-
-// The last place at which sector 0's count opens.
-const LAST_FIRST_COUNT: usize = HOME_LAST + HOME_TO_COUNT;
 
 // What a step gives: the place of the candidate's opening, its flag, S, KL and DL.
 pub struct Visited {

@@ -1,15 +1,17 @@
 -- `next_carrying` meets its contract: what carries S is what carries it of what is left.
 use mathlib.Core.Path.{_≡_, refl, sym, ap, _∙_}
-use Prim.Native.Nat.{_+_, _-_}
+use Prim.Native.Nat.{ℕ, _+_, _-_}
 use native.Mathlib.Omega.{arith}
-use lib.ListN.{length, take}
+use lib.ListN.{length, take, drop, length-take, length-drop}
 use Rattle.format.specs.Lent.{cells}
 use Rattle.format.specs.Count.{countNumber}
 use Rattle.format.specs.Find.{carrying}
+use Rattle.format.specs.Sector.{openingLength}
 use Rattle.search.specs.Place.{judgedPlace}
 use Rattle.format.proofs.Track.Pairs.{length-cells}
 use Rattle.reader.specs.Finding.{asCandidate}
 use Rattle.reader.proofs.CandidateNext.{candidatesAt, candidates-first, none-first}
+use Rattle.reader.proofs.CandidateBehind.{candidates-behind}
 use Rattle.reader.proofs.FindPart.{carrying-here, carrying-other}
 use borrow.Author.Needs.{needs}
 use Rattle.reader.proofs.finding.next_carrying.Statement.{statement}
@@ -49,15 +51,16 @@ returns c =
     let n : countNumber (x .rest) ≡ a .s = sym (c .before .byte-at .ensures ∙ ap countNumber (c .before .before .rest-of .ensures)) ∙ c .if1 .taken in
     sym (ap (take 1) (l .inv ∙ ap (carrying (a .s)) (f .2) ∙ carrying-here (a .s) x (candidatesAt h (x .place + 1) d) n))
 
-add-p : tie.Need-add-p Inv-loop μ-loop
-add-p c =
-    let a = c .before .before .before .before .before .before .before .before .before .before .before .args in
-    let l = c .before .before .before .before .before .before .before .before .loop in
-    let h = judgedPlace (a .home) in
-    let d = cells (a .track .now) (a .marks .now) in
-    let x = asCandidate (a .track .now) (c .before .before .before .before .before .x .given .0 .0) in
-    let f = candidates-first h (l .p) d x (rw (c .before .before .before .before .before .x .given .1) at (c .before .before .before .before .before .before .before .next-candidate .ensures)) in
-    omega (arith, f .1, length-cells (a .track .now) (a .marks .now))
+place-behind-requires : tie.Need-place-behind-requires Inv-loop μ-loop
+place-behind-requires c κs =
+    let a = c .before .before .before .before .before .before .before .before .before .before .args in
+    let l = c .before .before .before .before .before .before .before .loop in
+    let t = a .track .now in
+    let d = cells t (a .marks .now) in
+    let y = c .before .before .before .before .x .given .0 .0 in
+    let q : ℕ = y .place + openingLength (y .first) in
+    let f = candidates-first (judgedPlace (a .home)) (l .p) d (asCandidate t y) (rw (c .before .before .before .before .x .given .1) at (c .before .before .before .before .before .before .next-candidate .ensures)) in
+    omega (arith, f .1, length-cells t (a .marks .now), ap length (c .before .before .rest-of .ensures), length-take (y .size) (drop q t), length-drop q t)
 
 loop-less : tie.Need-loop-less Inv-loop μ-loop
 loop-less c =
@@ -66,8 +69,10 @@ loop-less c =
     let h = judgedPlace (a .home) in
     let d = cells (a .track .now) (a .marks .now) in
     let x = asCandidate (a .track .now) (c .before .before .before .before .before .x .given .0 .0) in
-    let f = candidates-first h (l .p) d x (rw (c .before .before .before .before .before .x .given .1) at (c .before .before .before .before .before .before .before .next-candidate .ensures)) in
-    omega (arith, f .0, f .1)
+    let e = rw (c .before .before .before .before .before .x .given .1) at (c .before .before .before .before .before .before .before .next-candidate .ensures) in
+    let f = candidates-first h (l .p) d x e in
+    let b = candidates-behind (a .home) (l .p) d x (c .before .before .before .before .before .before .before .before .before .before .before .pre) e (c .place-behind .result) (length (c .before .before .before .rest-of .result .now)) (ap length (c .before .before .before .rest-of .ensures)) (c .place-behind .ensures) in
+    omega (arith, f .0, f .1, b .0)
 
 loop-again : tie.Need-loop-again Inv-loop μ-loop
 loop-again c =
@@ -76,9 +81,14 @@ loop-again c =
     let h = judgedPlace (a .home) in
     let d = cells (a .track .now) (a .marks .now) in
     let x = asCandidate (a .track .now) (c .before .before .before .before .before .x .given .0 .0) in
-    let f = candidates-first h (l .p) d x (rw (c .before .before .before .before .before .x .given .1) at (c .before .before .before .before .before .before .before .next-candidate .ensures)) in
+    let e = rw (c .before .before .before .before .before .x .given .1) at (c .before .before .before .before .before .before .before .next-candidate .ensures) in
+    let f = candidates-first h (l .p) d x e in
     let n = c .before .before .byte-at .ensures ∙ ap countNumber (c .before .before .before .rest-of .ensures) in
-    l .inv ∙ ap (carrying (a .s)) (f .2) ∙ carrying-other (a .s) x (candidatesAt h (x .place + 1) d) (λ q. c .before .if1 .left (n ∙ q))
+    let b = candidates-behind (a .home) (l .p) d x (c .before .before .before .before .before .before .before .before .before .before .before .pre) e (c .place-behind .result) (length (c .before .before .before .rest-of .result .now)) (ap length (c .before .before .before .rest-of .ensures)) (c .place-behind .ensures) in
+    l .inv
+    ∙ ap (carrying (a .s)) (f .2)
+    ∙ carrying-other (a .s) x (candidatesAt h (x .place + 1) d) (λ q. c .before .if1 .left (n ∙ q))
+    ∙ ap (carrying (a .s)) (b .1)
 
 enum-told : tie.Need-enum-told Inv-loop μ-loop
 enum-told c = search needs
@@ -104,7 +114,7 @@ next-carrying-spec =
     rest-of-requires
     byte-at-requires
     returns
-    add-p
+    place-behind-requires
     loop-less
     loop-again
     enum-told
