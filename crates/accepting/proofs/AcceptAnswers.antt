@@ -83,7 +83,7 @@ unfolding readSpan
 later-good h i x p last g z = sector-zero h (suc i) x p last (drop 8 g) z
 
 -- B8 in a later position is that of the second position after it.
-sequence-two : (i f : ℕ) → sequenceRight (suc i) f ≡ sequenceRight (suc (suc (suc i))) f
+pub sequence-two : (i f : ℕ) → sequenceRight (suc i) f ≡ sequenceRight (suc (suc (suc i))) f
 unfolding sequenceRight
 sequence-two i f =
     let e : suc (suc (suc i)) % 2 ≡ suc i % 2 = omega arith in

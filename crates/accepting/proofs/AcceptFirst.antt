@@ -19,7 +19,6 @@ use Rattle.format.specs.Span.{spanLength, spanRest, beforeOpening, laterSpans, 
 use Rattle.format.specs.Sector.{sectorIn, settle, judgeSector, readSpan}
 use Rattle.format.specs.Accept.{readSpans}
 use Rattle.base.proofs.Tests.{and-both, false-true}
-use Rattle.base.proofs.Lists.{part-all}
 use Rattle.format.proofs.Spans.Shape.{FirstReaches}
 use Rattle.format.proofs.Cells.Opening.{starts-with-append}
 use Rattle.format.proofs.Spans.Cutting.{before-joined, before-whole, shape-spans, shape-later, later-joined}
@@ -127,10 +126,6 @@ first-front p t m ns n u o e =
         absurd (omega (arith, ap length w, length-append (beforeOpening (drop p (cells t m))) [], length-drop p (cells t m), length-cells t m, u .lengths, u .reach))
     reach (y ∷ gs) w k f l = omega arith
 
--- What is left behind sector 0, as slices.
-pub first-rest : (p n : ℕ) (t m ns : List ℕ) → First p n t m ns → LaterSpans (p + n) (take (length t - (p + n)) (drop (p + n) t)) (take (length m - (p + n)) (drop (p + n) m)) ns
-first-rest p n t m ns f = rw (part-all (p + n) t, part-all (p + n) m) (f .rest)
-
 -- Sector 0's count does not open.
 pub first-missing : (h : Home) (p : ℕ) (t m ns : List ℕ) → NoStrayMark p t m ns → startsWith plainOpening (drop p (cells t m)) ≡ false
     → answerOf (readSpans h 0 unsettled p (spans (drop p (cells t m)))) ≡ firstCountMissing p
@@ -153,12 +148,12 @@ module _ (h : Home) (p n : ℕ) (t m ns : List ℕ) (f : First p n t m ns) (last
 
   -- It is good, settles the address a, and what is left behind it decides.
   pub first-good : (a : Address) → a ≡ addressIn (take (p + n - (p + 6)) (drop (p + 6) t)) → b .number ≡ 0
-      → answerOf (readSpans h 1 (settled a) (p + n) (laterSpans (cells (take (length t - (p + n)) (drop (p + n) t)) (take (length m - (p + n)) (drop (p + n) m)))))
+      → answerOf (readSpans h 1 (settled a) (p + n) (laterSpans (cells (drop (p + n) t) (drop (p + n) m))))
       ≡ answerOf (readSpans h 0 unsettled p (spans (drop p (cells t m))))
   unfolding readSpans readSpan spans settle sectorIn
   first-good a k z =
       let d : List ℕ = drop p (cells t m) in
       let r : List ℕ = drop 6 (beforeOpening d) in
       let y = sector-zero h 0 unsettled p (none (laterSpans d)) r (ap (λ (a : Answer). a .number) (sym by-span) ∙ z) in
-      rw (part-all (p + n) t, part-all (p + n) m, f .later-cut, f .opened, y, k, f .bytes, ← f .size)
+      rw (f .later-cut, f .opened, y, k, f .bytes, ← f .size)
       (sym (answer-then (readSpans h 1 (settled (addressIn r)) (p + length (beforeOpening d)) (laterSpans d)) _))

@@ -9,3 +9,4 @@ pub mod AcceptFirst
 pub mod AcceptNumbers
 pub mod AcceptBehind
 pub mod AcceptLegal
+pub mod AcceptWrong

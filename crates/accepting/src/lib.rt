@@ -8,7 +8,7 @@ ghost use lib.Dec.{leb};
 ghost use Rattle.base.specs.Pick.{pick};
 ghost use Rattle.format.specs.Answer.{asAnswer, lentWrong};
 ghost use Rattle.format.specs.Judged.{answerOf, good, refused, then};
-ghost use Rattle.format.specs.Layout.{homeFirst, homeLast};
+ghost use Rattle.format.specs.Layout.{longestTrack, homeFirst, homeLast};
 ghost use Rattle.format.specs.Lent.{marksLegal, lentForWriting, cells};
 ghost use Rattle.format.specs.Opening.{startsWith, plainOpening};
 ghost use Rattle.format.specs.Count.{unsettled, settled};
@@ -16,6 +16,7 @@ ghost use Rattle.format.specs.Span.{laterSpans, spans};
 ghost use Rattle.format.specs.Sector.{judgeSector};
 ghost use Rattle.format.specs.Accept.{readSpans, judgeBehind, accept};
 ghost use Rattle.sector.specs.As.{asAddress, asHome, asSettled};
+ghost use Rattle.accepting.specs.Wrong.{wrongLeft};
 ghost use Rattle.accepting.specs.Accepting.{LaterSpans, NoStrayMark, numbersIn, judgedTrack, trackInWindow};
 use format::layout::FIRST_COUNT;
 use format::layout::HOME_TO_COUNT;
@@ -71,30 +72,23 @@ fn listed_span(starts: &[u16], k: usize, p: usize, l: usize) -> Span
     }
 }
 
-// The answer for the sectors from the odd one at the front of what is left on: its B8 is 1.
-fn judge_odd(
-    track: &[u8],
-    marks: &[u8],
-    starts: &[u16],
-    p: usize,
-    h: Home,
-    named: Address,
-) -> format::Answer
+// How many sectors are left from the first wrong one on, of those from the odd one at the front of what is left on; 0 where all are right. Its B8 is 1.
+fn judge_odd(track: &[u8], marks: &[u8], starts: &[u16], p: usize, h: Home, named: Address) -> usize
     requires { ⌜ LaterSpans p (now track) (now marks) (now starts) ⌝ }
-    ensures { λ a. ⌜ asAnswer a ≡ answerOf (readSpans (asHome h) 1 (settled (asAddress named)) p (laterSpans (cells (now (track .entry)) (now (marks .entry))))) ⌝ }
+    ensures { λ r. ⌜ r ≡ wrongLeft (asHome h) 1 (asAddress named) (laterSpans (cells (now (track .entry)) (now (marks .entry)))) ⌝ }
 {
     if track.len() == 0 {
-        return format::done();
+        return 0;
     }
     let span = listed_span(starts, 1, p, p + track.len());
     let n = span.length;
     if !sector::later_right(h, 1, named, span.last, &track[MARKED..n]) {
-        return judge_sector(h, 1, Named::Settled(named), p, span.last, &track[MARKED..n]);
+        return starts.len();
     }
     judge_even(&track[n..], &marks[n..], &starts[1..], p + n, h, named)
 }
 
-// The answer for the sectors from the even one at the front of what is left on: its B8 is 0.
+// The same from the even one at the front of what is left on: its B8 is 0.
 fn judge_even(
     track: &[u8],
     marks: &[u8],
@@ -102,19 +96,51 @@ fn judge_even(
     p: usize,
     h: Home,
     named: Address,
-) -> format::Answer
+) -> usize
     requires { ⌜ LaterSpans p (now track) (now marks) (now starts) ⌝ }
-    ensures { λ a. ⌜ asAnswer a ≡ answerOf (readSpans (asHome h) 2 (settled (asAddress named)) p (laterSpans (cells (now (track .entry)) (now (marks .entry))))) ⌝ }
+    ensures { λ r. ⌜ r ≡ wrongLeft (asHome h) 2 (asAddress named) (laterSpans (cells (now (track .entry)) (now (marks .entry)))) ⌝ }
 {
     if track.len() == 0 {
-        return format::done();
+        return 0;
     }
     let span = listed_span(starts, 1, p, p + track.len());
     let n = span.length;
     if !sector::later_right(h, 2, named, span.last, &track[MARKED..n]) {
-        return judge_sector(h, 2, Named::Settled(named), p, span.last, &track[MARKED..n]);
+        return starts.len();
     }
     judge_odd(&track[n..], &marks[n..], &starts[1..], p + n, h, named)
+}
+
+// The answer for the later sectors, the first of which stands at place p: that of the first wrong one.
+fn judge_later(
+    track: &[u8],
+    marks: &[u8],
+    starts: &[u16],
+    p: usize,
+    h: Home,
+    named: Address,
+) -> format::Answer
+    requires { ⌜ LaterSpans p (drop p (now track)) (drop p (now marks)) (now starts) ⌝ }
+    requires { ⌜ (p ≤ length (now track)) × (length (now marks) ≡ length (now track)) × (length (now track) ≤ longestTrack) ⌝ }
+    ensures { λ a. ⌜ asAnswer a ≡ answerOf (readSpans (asHome h) 1 (settled (asAddress named)) p (laterSpans (cells (drop p (now (track .entry))) (drop p (now (marks .entry)))))) ⌝ }
+{
+    let left = judge_odd(&track[p..], &marks[p..], starts, p, h, named);
+    if left == 0 {
+        return format::done();
+    }
+    let k = starts.len() - left;
+    let q = place_from(starts[k]);
+    let span = listed_span(starts, k + 1, q, track.len());
+    let from = q + MARKED;
+    let to = q + span.length;
+    judge_sector(
+        h,
+        k + 1,
+        Named::Settled(named),
+        q,
+        span.last,
+        &track[from..to],
+    )
 }
 
 // The answer for the sectors from sector 0 at place p on: 6 where its count does not open, then sector by sector.
@@ -133,7 +159,7 @@ fn judge_sectors(track: &[u8], marks: &[u8], starts: &[u16], p: usize, h: Home) 
         return a;
     }
     let named = sector::address_in(&track[from..to]);
-    judge_odd(&track[to..], &marks[to..], starts, to, h, named)
+    judge_later(track, marks, starts, to, h, named)
 }
 
 // The answer for the numbers of the sectors from sector 0 at place p on: 13 for the leftmost that repeats an earlier one.

@@ -5,11 +5,10 @@ use native.Mathlib.Omega.{arith}
 use borrow.Author.Needs.{needs}
 use borrow.Author.Tests.{not-true, not-false}
 use lib.ListN.{length, getD, length-drop}
-use Rattle.format.specs.Count.{settled}
 use Rattle.sector.specs.As.{asAddress, asHome}
 use Rattle.base.proofs.Lists.{part-all}
-use Rattle.accepting.proofs.AcceptAnswers.{answers-two}
-use Rattle.accepting.proofs.AcceptSpans.{front, later-none, rest-next, front-wrong, front-right}
+use Rattle.accepting.proofs.AcceptSpans.{front, no-span, rest-next}
+use Rattle.accepting.proofs.AcceptWrong.{wrong-none, wrong-two, front-count, wrong-here, wrong-later}
 use borrow.Fn.Kinds.{In}
 use borrow.Fn.PlainCycle.{Measures, is, falls, and}
 use Rattle.accepting.proofs.judge_even.Reads as judge-even
@@ -18,9 +17,7 @@ use Rattle.accepting.proofs.+judge_even+judge_odd.Lts-judge_even as jud
 use Rattle.accepting.proofs.judge_odd.Reads as judge-odd
 use Rattle.accepting.proofs.judge_odd.Kinds as judge-odd-kinds
 use Rattle.accepting.proofs.+judge_even+judge_odd.Lts-judge_odd as judge-odd-lts
-use Rattle.accepting.proofs.judge_sector.Reads as judge-sector-reads
 use Rattle.accepting.proofs.listed_span.Reads as listed-span-reads
-use Rattle.format.proofs.done.Reads as done-reads
 use Rattle.sector.proofs.later_right.Reads as later-right-reads
 use Rattle.accepting.proofs.+judge_even+judge_odd.{statement}
 use Rattle.accepting.proofs.+judge_even+judge_odd.Tie.{close}
@@ -47,59 +44,33 @@ abbrev judge-odd-below : ℕ → In 3 judge-odd-kinds.ps
 judge-odd-below t =
     and 3 judge-odd-kinds.ps (falls 3 judge-odd-kinds.ps _<_ μ-judge-odd t) judge-odd.Pre
 
-judge-even-done-requires : (t : ℕ) → judge-even-lts.Need-done-requires (
-  done-reads.Asked,
-  done-reads.Learnt,
-  listed-span-reads.Asked,
-  listed-span-reads.Learnt,
-  later-right-reads.Asked,
-  later-right-reads.Learnt,
-  judge-sector-reads.Asked,
-  judge-sector-reads.Learnt,
-  judge-odd-below t,
-  judge-odd.Post,
-) (judge-even-at t) judge-even.Post
-judge-even-done-requires t c κs = search needs
-
 judge-even-returns : (t : ℕ) → judge-even-lts.Need-returns (
-  done-reads.Asked,
-  done-reads.Learnt,
   listed-span-reads.Asked,
   listed-span-reads.Learnt,
   later-right-reads.Asked,
   later-right-reads.Learnt,
-  judge-sector-reads.Asked,
-  judge-sector-reads.Learnt,
   judge-odd-below t,
   judge-odd.Post,
 ) (judge-even-at t) judge-even.Post
 judge-even-returns t c =
-    let a = c .before .before .before .before .before .args in
-    c .done .ensures ∙ sym (later-none (asHome (a .h)) 2 (settled (asAddress (a .named))) (a .p) (a .track .now) (a .marks .now) (c .before .if1 .taken))
+    let a = c .before .before .before .before .args in
+    sym (wrong-none (asHome (a .h)) 2 (asAddress (a .named)) _ (no-span (a .track .now) (a .marks .now) (c .if1 .taken)))
 
 judge-even-add-listed-span : (t : ℕ) → judge-even-lts.Need-add-listed-span (
-  done-reads.Asked,
-  done-reads.Learnt,
   listed-span-reads.Asked,
   listed-span-reads.Learnt,
   later-right-reads.Asked,
   later-right-reads.Learnt,
-  judge-sector-reads.Asked,
-  judge-sector-reads.Learnt,
   judge-odd-below t,
   judge-odd.Post,
 ) (judge-even-at t) judge-even.Post
 judge-even-add-listed-span t c = omega (arith, c .before .before .before .before .pre .1 .within)
 
 judge-even-listed-span-requires : (t : ℕ) → judge-even-lts.Need-listed-span-requires (
-  done-reads.Asked,
-  done-reads.Learnt,
   listed-span-reads.Asked,
   listed-span-reads.Learnt,
   later-right-reads.Asked,
   later-right-reads.Learnt,
-  judge-sector-reads.Asked,
-  judge-sector-reads.Learnt,
   judge-odd-below t,
   judge-odd.Post,
 ) (judge-even-at t) judge-even.Post
@@ -109,14 +80,10 @@ judge-even-listed-span-requires t c κs =
     omega (arith, f .opening)
 
 judge-even-sub-later-right : (t : ℕ) → judge-even-lts.Need-sub-later-right (
-  done-reads.Asked,
-  done-reads.Learnt,
   listed-span-reads.Asked,
   listed-span-reads.Learnt,
   later-right-reads.Asked,
   later-right-reads.Learnt,
-  judge-sector-reads.Asked,
-  judge-sector-reads.Learnt,
   judge-odd-below t,
   judge-odd.Post,
 ) (judge-even-at t) judge-even.Post
@@ -127,14 +94,10 @@ judge-even-sub-later-right t c =
     omega (arith, f .opening, f .fits)
 
 judge-even-part-later-right-start : (t : ℕ) → judge-even-lts.Need-part-later-right-start (
-  done-reads.Asked,
-  done-reads.Learnt,
   listed-span-reads.Asked,
   listed-span-reads.Learnt,
   later-right-reads.Asked,
   later-right-reads.Learnt,
-  judge-sector-reads.Asked,
-  judge-sector-reads.Learnt,
   judge-odd-below t,
   judge-odd.Post,
 ) (judge-even-at t) judge-even.Post
@@ -145,14 +108,10 @@ judge-even-part-later-right-start t c =
     omega (arith, f .opening, f .fits)
 
 judge-even-part-later-right-end : (t : ℕ) → judge-even-lts.Need-part-later-right-end (
-  done-reads.Asked,
-  done-reads.Learnt,
   listed-span-reads.Asked,
   listed-span-reads.Learnt,
   later-right-reads.Asked,
   later-right-reads.Learnt,
-  judge-sector-reads.Asked,
-  judge-sector-reads.Learnt,
   judge-odd-below t,
   judge-odd.Post,
 ) (judge-even-at t) judge-even.Post
@@ -163,114 +122,34 @@ judge-even-part-later-right-end t c =
     omega (arith, f .opening, f .fits)
 
 judge-even-later-right-requires : (t : ℕ) → judge-even-lts.Need-later-right-requires (
-  done-reads.Asked,
-  done-reads.Learnt,
   listed-span-reads.Asked,
   listed-span-reads.Learnt,
   later-right-reads.Asked,
   later-right-reads.Learnt,
-  judge-sector-reads.Asked,
-  judge-sector-reads.Learnt,
   judge-odd-below t,
   judge-odd.Post,
 ) (judge-even-at t) judge-even.Post
 judge-even-later-right-requires t c κs = search needs
 
-judge-even-sub-judge-sector : (t : ℕ) → judge-even-lts.Need-sub-judge-sector (
-  done-reads.Asked,
-  done-reads.Learnt,
-  listed-span-reads.Asked,
-  listed-span-reads.Learnt,
-  later-right-reads.Asked,
-  later-right-reads.Learnt,
-  judge-sector-reads.Asked,
-  judge-sector-reads.Learnt,
-  judge-odd-below t,
-  judge-odd.Post,
-) (judge-even-at t) judge-even.Post
-judge-even-sub-judge-sector t c =
-    let a = c .before .before .before .before .before .before .before .before .args in
-    let s = c .before .before .before .listed-span in
-    let f = front (a .p) (a .track .now) (a .marks .now) (a .starts .now) (s .result .length) (c .before .before .before .before .before .before .before .before .pre .1) (s .ensures .0) (omega (arith, c .before .before .before .before .if1 .left)) in
-    omega (arith, f .opening, f .fits)
-
-judge-even-part-judge-sector-start : (t : ℕ) → judge-even-lts.Need-part-judge-sector-start (
-  done-reads.Asked,
-  done-reads.Learnt,
-  listed-span-reads.Asked,
-  listed-span-reads.Learnt,
-  later-right-reads.Asked,
-  later-right-reads.Learnt,
-  judge-sector-reads.Asked,
-  judge-sector-reads.Learnt,
-  judge-odd-below t,
-  judge-odd.Post,
-) (judge-even-at t) judge-even.Post
-judge-even-part-judge-sector-start t c =
-    let a = c .before .before .before .before .before .before .before .before .args in
-    let s = c .before .before .before .listed-span in
-    let f = front (a .p) (a .track .now) (a .marks .now) (a .starts .now) (s .result .length) (c .before .before .before .before .before .before .before .before .pre .1) (s .ensures .0) (omega (arith, c .before .before .before .before .if1 .left)) in
-    omega (arith, f .opening, f .fits)
-
-judge-even-part-judge-sector-end : (t : ℕ) → judge-even-lts.Need-part-judge-sector-end (
-  done-reads.Asked,
-  done-reads.Learnt,
-  listed-span-reads.Asked,
-  listed-span-reads.Learnt,
-  later-right-reads.Asked,
-  later-right-reads.Learnt,
-  judge-sector-reads.Asked,
-  judge-sector-reads.Learnt,
-  judge-odd-below t,
-  judge-odd.Post,
-) (judge-even-at t) judge-even.Post
-judge-even-part-judge-sector-end t c =
-    let a = c .before .before .before .before .before .before .before .before .args in
-    let s = c .before .before .before .listed-span in
-    let f = front (a .p) (a .track .now) (a .marks .now) (a .starts .now) (s .result .length) (c .before .before .before .before .before .before .before .before .pre .1) (s .ensures .0) (omega (arith, c .before .before .before .before .if1 .left)) in
-    omega (arith, f .opening, f .fits)
-
-judge-even-judge-sector-requires : (t : ℕ) → judge-even-lts.Need-judge-sector-requires (
-  done-reads.Asked,
-  done-reads.Learnt,
-  listed-span-reads.Asked,
-  listed-span-reads.Learnt,
-  later-right-reads.Asked,
-  later-right-reads.Learnt,
-  judge-sector-reads.Asked,
-  judge-sector-reads.Learnt,
-  judge-odd-below t,
-  judge-odd.Post,
-) (judge-even-at t) judge-even.Post
-judge-even-judge-sector-requires t c κs = omega (arith, c .before .before .before .before .before .before .before .before .before .pre .1 .within)
-
 judge-even-returns-2 : (t : ℕ) → judge-even-lts.Need-returns-2 (
-  done-reads.Asked,
-  done-reads.Learnt,
   listed-span-reads.Asked,
   listed-span-reads.Learnt,
   later-right-reads.Asked,
   later-right-reads.Learnt,
-  judge-sector-reads.Asked,
-  judge-sector-reads.Learnt,
   judge-odd-below t,
   judge-odd.Post,
 ) (judge-even-at t) judge-even.Post
 judge-even-returns-2 t c =
-    let a = c .before .before .before .before .before .before .before .before .before .before .args in
-    let s = c .before .before .before .before .before .listed-span in
-    let f = front (a .p) (a .track .now) (a .marks .now) (a .starts .now) (s .result .length) (c .before .before .before .before .before .before .before .before .before .before .pre .1) (s .ensures .0) (omega (arith, c .before .before .before .before .before .before .if1 .left)) in
-    front-wrong (asHome (a .h)) 1 (asAddress (a .named)) (a .p) (s .result .length) (a .track .now) (a .marks .now) (a .starts .now) f (s .result .last) (s .ensures .1) (sym (c .before .before .before .later-right .ensures) ∙ not-true _ (c .before .before .if2 .taken)) _ (c .judge-sector .ensures)
+    let a = c .before .before .before .before .before .before .before .before .args in
+    let s = c .before .before .before .listed-span in
+    let f = front (a .p) (a .track .now) (a .marks .now) (a .starts .now) (s .result .length) (c .before .before .before .before .before .before .before .before .pre .1) (s .ensures .0) (omega (arith, c .before .before .before .before .if1 .left)) in
+    wrong-here (asHome (a .h)) 2 (asAddress (a .named)) (a .p) (s .result .length) (a .track .now) (a .marks .now) (a .starts .now) f (s .result .last) (s .ensures .1) (front-count (a .p) (s .result .length) (a .track .now) (a .marks .now) (a .starts .now) (c .before .before .before .before .before .before .before .before .pre .1) f) (sym (c .before .later-right .ensures) ∙ not-true _ (c .if2 .taken))
 
 judge-even-sub-judge-odd : (t : ℕ) → judge-even-lts.Need-sub-judge-odd (
-  done-reads.Asked,
-  done-reads.Learnt,
   listed-span-reads.Asked,
   listed-span-reads.Learnt,
   later-right-reads.Asked,
   later-right-reads.Learnt,
-  judge-sector-reads.Asked,
-  judge-sector-reads.Learnt,
   judge-odd-below t,
   judge-odd.Post,
 ) (judge-even-at t) judge-even.Post
@@ -281,14 +160,10 @@ judge-even-sub-judge-odd t c =
     omega (arith, f .fits)
 
 judge-even-part-judge-odd-start : (t : ℕ) → judge-even-lts.Need-part-judge-odd-start (
-  done-reads.Asked,
-  done-reads.Learnt,
   listed-span-reads.Asked,
   listed-span-reads.Learnt,
   later-right-reads.Asked,
   later-right-reads.Learnt,
-  judge-sector-reads.Asked,
-  judge-sector-reads.Learnt,
   judge-odd-below t,
   judge-odd.Post,
 ) (judge-even-at t) judge-even.Post
@@ -299,14 +174,10 @@ judge-even-part-judge-odd-start t c =
     omega (arith, f .fits)
 
 judge-even-part-judge-odd-end : (t : ℕ) → judge-even-lts.Need-part-judge-odd-end (
-  done-reads.Asked,
-  done-reads.Learnt,
   listed-span-reads.Asked,
   listed-span-reads.Learnt,
   later-right-reads.Asked,
   later-right-reads.Learnt,
-  judge-sector-reads.Asked,
-  judge-sector-reads.Learnt,
   judge-odd-below t,
   judge-odd.Post,
 ) (judge-even-at t) judge-even.Post
@@ -317,14 +188,10 @@ judge-even-part-judge-odd-end t c =
     omega (arith, f .fits)
 
 judge-even-sub-judge-odd-2 : (t : ℕ) → judge-even-lts.Need-sub-judge-odd-2 (
-  done-reads.Asked,
-  done-reads.Learnt,
   listed-span-reads.Asked,
   listed-span-reads.Learnt,
   later-right-reads.Asked,
   later-right-reads.Learnt,
-  judge-sector-reads.Asked,
-  judge-sector-reads.Learnt,
   judge-odd-below t,
   judge-odd.Post,
 ) (judge-even-at t) judge-even.Post
@@ -335,14 +202,10 @@ judge-even-sub-judge-odd-2 t c =
     omega (arith, f .fits, c .before .before .before .before .before .before .before .before .before .pre .1 .lengths)
 
 judge-even-part-judge-odd-start-2 : (t : ℕ) → judge-even-lts.Need-part-judge-odd-start-2 (
-  done-reads.Asked,
-  done-reads.Learnt,
   listed-span-reads.Asked,
   listed-span-reads.Learnt,
   later-right-reads.Asked,
   later-right-reads.Learnt,
-  judge-sector-reads.Asked,
-  judge-sector-reads.Learnt,
   judge-odd-below t,
   judge-odd.Post,
 ) (judge-even-at t) judge-even.Post
@@ -353,14 +216,10 @@ judge-even-part-judge-odd-start-2 t c =
     omega (arith, f .fits, c .before .before .before .before .before .before .before .before .before .pre .1 .lengths)
 
 judge-even-part-judge-odd-end-2 : (t : ℕ) → judge-even-lts.Need-part-judge-odd-end-2 (
-  done-reads.Asked,
-  done-reads.Learnt,
   listed-span-reads.Asked,
   listed-span-reads.Learnt,
   later-right-reads.Asked,
   later-right-reads.Learnt,
-  judge-sector-reads.Asked,
-  judge-sector-reads.Learnt,
   judge-odd-below t,
   judge-odd.Post,
 ) (judge-even-at t) judge-even.Post
@@ -371,14 +230,10 @@ judge-even-part-judge-odd-end-2 t c =
     omega (arith, f .fits, c .before .before .before .before .before .before .before .before .before .pre .1 .lengths)
 
 judge-even-sub-judge-odd-3 : (t : ℕ) → judge-even-lts.Need-sub-judge-odd-3 (
-  done-reads.Asked,
-  done-reads.Learnt,
   listed-span-reads.Asked,
   listed-span-reads.Learnt,
   later-right-reads.Asked,
   later-right-reads.Learnt,
-  judge-sector-reads.Asked,
-  judge-sector-reads.Learnt,
   judge-odd-below t,
   judge-odd.Post,
 ) (judge-even-at t) judge-even.Post
@@ -389,14 +244,10 @@ judge-even-sub-judge-odd-3 t c =
     omega (arith, f .listed)
 
 judge-even-part-judge-odd-start-3 : (t : ℕ) → judge-even-lts.Need-part-judge-odd-start-3 (
-  done-reads.Asked,
-  done-reads.Learnt,
   listed-span-reads.Asked,
   listed-span-reads.Learnt,
   later-right-reads.Asked,
   later-right-reads.Learnt,
-  judge-sector-reads.Asked,
-  judge-sector-reads.Learnt,
   judge-odd-below t,
   judge-odd.Post,
 ) (judge-even-at t) judge-even.Post
@@ -407,14 +258,10 @@ judge-even-part-judge-odd-start-3 t c =
     omega (arith, f .listed)
 
 judge-even-part-judge-odd-end-3 : (t : ℕ) → judge-even-lts.Need-part-judge-odd-end-3 (
-  done-reads.Asked,
-  done-reads.Learnt,
   listed-span-reads.Asked,
   listed-span-reads.Learnt,
   later-right-reads.Asked,
   later-right-reads.Learnt,
-  judge-sector-reads.Asked,
-  judge-sector-reads.Learnt,
   judge-odd-below t,
   judge-odd.Post,
 ) (judge-even-at t) judge-even.Post
@@ -425,14 +272,10 @@ judge-even-part-judge-odd-end-3 t c =
     omega (arith, f .listed)
 
 judge-even-add-judge-odd : (t : ℕ) → judge-even-lts.Need-add-judge-odd (
-  done-reads.Asked,
-  done-reads.Learnt,
   listed-span-reads.Asked,
   listed-span-reads.Learnt,
   later-right-reads.Asked,
   later-right-reads.Learnt,
-  judge-sector-reads.Asked,
-  judge-sector-reads.Learnt,
   judge-odd-below t,
   judge-odd.Post,
 ) (judge-even-at t) judge-even.Post
@@ -443,14 +286,10 @@ judge-even-add-judge-odd t c =
     omega (arith, f .fits, c .before .before .before .before .before .before .before .before .before .before .before .pre .1 .within)
 
 judge-even-judge-odd-requires : (t : ℕ) → judge-even-lts.Need-judge-odd-requires (
-  done-reads.Asked,
-  done-reads.Learnt,
   listed-span-reads.Asked,
   listed-span-reads.Learnt,
   later-right-reads.Asked,
   later-right-reads.Learnt,
-  judge-sector-reads.Asked,
-  judge-sector-reads.Learnt,
   judge-odd-below t,
   judge-odd.Post,
 ) (judge-even-at t) judge-even.Post
@@ -461,14 +300,10 @@ judge-even-judge-odd-requires t c κs =
     (omega (arith, f .opening, f .fits, length-drop (s .result .length) (a .track .now), ap length (part-all (s .result .length) (a .track .now))), rest-next (a .p) (s .result .length) (a .track .now) (a .marks .now) (a .starts .now) f)
 
 judge-even-returns-3 : (t : ℕ) → judge-even-lts.Need-returns-3 (
-  done-reads.Asked,
-  done-reads.Learnt,
   listed-span-reads.Asked,
   listed-span-reads.Learnt,
   later-right-reads.Asked,
   later-right-reads.Learnt,
-  judge-sector-reads.Asked,
-  judge-sector-reads.Learnt,
   judge-odd-below t,
   judge-odd.Post,
 ) (judge-even-at t) judge-even.Post
@@ -476,61 +311,35 @@ judge-even-returns-3 t c =
     let a = c .before .before .before .before .before .before .before .before .before .before .before .before .args in
     let s = c .before .before .before .before .before .before .before .listed-span in
     let f = front (a .p) (a .track .now) (a .marks .now) (a .starts .now) (s .result .length) (c .before .before .before .before .before .before .before .before .before .before .before .before .pre .1) (s .ensures .0) (omega (arith, c .before .before .before .before .before .before .before .before .if1 .left)) in
-    c .judge-odd .ensures ∙ answers-two (asHome (a .h)) 0 (settled (asAddress (a .named))) (a .p + s .result .length) _ ∙ front-right (asHome (a .h)) 1 (asAddress (a .named)) (a .p) (s .result .length) (a .track .now) (a .marks .now) (a .starts .now) f (s .result .last) (s .ensures .1) (sym (c .before .before .before .before .before .later-right .ensures) ∙ not-false _ (c .before .before .before .before .if2 .left))
-
-judge-odd-done-requires : (t : ℕ) → judge-odd-lts.Need-done-requires (
-  done-reads.Asked,
-  done-reads.Learnt,
-  listed-span-reads.Asked,
-  listed-span-reads.Learnt,
-  later-right-reads.Asked,
-  later-right-reads.Learnt,
-  judge-sector-reads.Asked,
-  judge-sector-reads.Learnt,
-  judge-even-below t,
-  judge-even.Post,
-) (judge-odd-at t) judge-odd.Post
-judge-odd-done-requires t c κs = search needs
+    c .judge-odd .ensures ∙ wrong-two (asHome (a .h)) 0 (asAddress (a .named)) _ ∙ rw (part-all (s .result .length) (a .track .now), part-all (s .result .length) (a .marks .now)) (wrong-later (asHome (a .h)) 2 (asAddress (a .named)) (a .p) (s .result .length) (a .track .now) (a .marks .now) (a .starts .now) f (s .result .last) (s .ensures .1) (sym (c .before .before .before .before .before .later-right .ensures) ∙ not-false _ (c .before .before .before .before .if2 .left)))
 
 judge-odd-returns : (t : ℕ) → judge-odd-lts.Need-returns (
-  done-reads.Asked,
-  done-reads.Learnt,
   listed-span-reads.Asked,
   listed-span-reads.Learnt,
   later-right-reads.Asked,
   later-right-reads.Learnt,
-  judge-sector-reads.Asked,
-  judge-sector-reads.Learnt,
   judge-even-below t,
   judge-even.Post,
 ) (judge-odd-at t) judge-odd.Post
 judge-odd-returns t c =
-    let a = c .before .before .before .before .before .args in
-    c .done .ensures ∙ sym (later-none (asHome (a .h)) 1 (settled (asAddress (a .named))) (a .p) (a .track .now) (a .marks .now) (c .before .if1 .taken))
+    let a = c .before .before .before .before .args in
+    sym (wrong-none (asHome (a .h)) 1 (asAddress (a .named)) _ (no-span (a .track .now) (a .marks .now) (c .if1 .taken)))
 
 judge-odd-add-listed-span : (t : ℕ) → judge-odd-lts.Need-add-listed-span (
-  done-reads.Asked,
-  done-reads.Learnt,
   listed-span-reads.Asked,
   listed-span-reads.Learnt,
   later-right-reads.Asked,
   later-right-reads.Learnt,
-  judge-sector-reads.Asked,
-  judge-sector-reads.Learnt,
   judge-even-below t,
   judge-even.Post,
 ) (judge-odd-at t) judge-odd.Post
 judge-odd-add-listed-span t c = omega (arith, c .before .before .before .before .pre .1 .within)
 
 judge-odd-listed-span-requires : (t : ℕ) → judge-odd-lts.Need-listed-span-requires (
-  done-reads.Asked,
-  done-reads.Learnt,
   listed-span-reads.Asked,
   listed-span-reads.Learnt,
   later-right-reads.Asked,
   later-right-reads.Learnt,
-  judge-sector-reads.Asked,
-  judge-sector-reads.Learnt,
   judge-even-below t,
   judge-even.Post,
 ) (judge-odd-at t) judge-odd.Post
@@ -540,14 +349,10 @@ judge-odd-listed-span-requires t c κs =
     omega (arith, f .opening)
 
 judge-odd-sub-later-right : (t : ℕ) → judge-odd-lts.Need-sub-later-right (
-  done-reads.Asked,
-  done-reads.Learnt,
   listed-span-reads.Asked,
   listed-span-reads.Learnt,
   later-right-reads.Asked,
   later-right-reads.Learnt,
-  judge-sector-reads.Asked,
-  judge-sector-reads.Learnt,
   judge-even-below t,
   judge-even.Post,
 ) (judge-odd-at t) judge-odd.Post
@@ -558,14 +363,10 @@ judge-odd-sub-later-right t c =
     omega (arith, f .opening, f .fits)
 
 judge-odd-part-later-right-start : (t : ℕ) → judge-odd-lts.Need-part-later-right-start (
-  done-reads.Asked,
-  done-reads.Learnt,
   listed-span-reads.Asked,
   listed-span-reads.Learnt,
   later-right-reads.Asked,
   later-right-reads.Learnt,
-  judge-sector-reads.Asked,
-  judge-sector-reads.Learnt,
   judge-even-below t,
   judge-even.Post,
 ) (judge-odd-at t) judge-odd.Post
@@ -576,14 +377,10 @@ judge-odd-part-later-right-start t c =
     omega (arith, f .opening, f .fits)
 
 judge-odd-part-later-right-end : (t : ℕ) → judge-odd-lts.Need-part-later-right-end (
-  done-reads.Asked,
-  done-reads.Learnt,
   listed-span-reads.Asked,
   listed-span-reads.Learnt,
   later-right-reads.Asked,
   later-right-reads.Learnt,
-  judge-sector-reads.Asked,
-  judge-sector-reads.Learnt,
   judge-even-below t,
   judge-even.Post,
 ) (judge-odd-at t) judge-odd.Post
@@ -594,114 +391,34 @@ judge-odd-part-later-right-end t c =
     omega (arith, f .opening, f .fits)
 
 judge-odd-later-right-requires : (t : ℕ) → judge-odd-lts.Need-later-right-requires (
-  done-reads.Asked,
-  done-reads.Learnt,
   listed-span-reads.Asked,
   listed-span-reads.Learnt,
   later-right-reads.Asked,
   later-right-reads.Learnt,
-  judge-sector-reads.Asked,
-  judge-sector-reads.Learnt,
   judge-even-below t,
   judge-even.Post,
 ) (judge-odd-at t) judge-odd.Post
 judge-odd-later-right-requires t c κs = search needs
 
-judge-odd-sub-judge-sector : (t : ℕ) → judge-odd-lts.Need-sub-judge-sector (
-  done-reads.Asked,
-  done-reads.Learnt,
-  listed-span-reads.Asked,
-  listed-span-reads.Learnt,
-  later-right-reads.Asked,
-  later-right-reads.Learnt,
-  judge-sector-reads.Asked,
-  judge-sector-reads.Learnt,
-  judge-even-below t,
-  judge-even.Post,
-) (judge-odd-at t) judge-odd.Post
-judge-odd-sub-judge-sector t c =
-    let a = c .before .before .before .before .before .before .before .before .args in
-    let s = c .before .before .before .listed-span in
-    let f = front (a .p) (a .track .now) (a .marks .now) (a .starts .now) (s .result .length) (c .before .before .before .before .before .before .before .before .pre .1) (s .ensures .0) (omega (arith, c .before .before .before .before .if1 .left)) in
-    omega (arith, f .opening, f .fits)
-
-judge-odd-part-judge-sector-start : (t : ℕ) → judge-odd-lts.Need-part-judge-sector-start (
-  done-reads.Asked,
-  done-reads.Learnt,
-  listed-span-reads.Asked,
-  listed-span-reads.Learnt,
-  later-right-reads.Asked,
-  later-right-reads.Learnt,
-  judge-sector-reads.Asked,
-  judge-sector-reads.Learnt,
-  judge-even-below t,
-  judge-even.Post,
-) (judge-odd-at t) judge-odd.Post
-judge-odd-part-judge-sector-start t c =
-    let a = c .before .before .before .before .before .before .before .before .args in
-    let s = c .before .before .before .listed-span in
-    let f = front (a .p) (a .track .now) (a .marks .now) (a .starts .now) (s .result .length) (c .before .before .before .before .before .before .before .before .pre .1) (s .ensures .0) (omega (arith, c .before .before .before .before .if1 .left)) in
-    omega (arith, f .opening, f .fits)
-
-judge-odd-part-judge-sector-end : (t : ℕ) → judge-odd-lts.Need-part-judge-sector-end (
-  done-reads.Asked,
-  done-reads.Learnt,
-  listed-span-reads.Asked,
-  listed-span-reads.Learnt,
-  later-right-reads.Asked,
-  later-right-reads.Learnt,
-  judge-sector-reads.Asked,
-  judge-sector-reads.Learnt,
-  judge-even-below t,
-  judge-even.Post,
-) (judge-odd-at t) judge-odd.Post
-judge-odd-part-judge-sector-end t c =
-    let a = c .before .before .before .before .before .before .before .before .args in
-    let s = c .before .before .before .listed-span in
-    let f = front (a .p) (a .track .now) (a .marks .now) (a .starts .now) (s .result .length) (c .before .before .before .before .before .before .before .before .pre .1) (s .ensures .0) (omega (arith, c .before .before .before .before .if1 .left)) in
-    omega (arith, f .opening, f .fits)
-
-judge-odd-judge-sector-requires : (t : ℕ) → judge-odd-lts.Need-judge-sector-requires (
-  done-reads.Asked,
-  done-reads.Learnt,
-  listed-span-reads.Asked,
-  listed-span-reads.Learnt,
-  later-right-reads.Asked,
-  later-right-reads.Learnt,
-  judge-sector-reads.Asked,
-  judge-sector-reads.Learnt,
-  judge-even-below t,
-  judge-even.Post,
-) (judge-odd-at t) judge-odd.Post
-judge-odd-judge-sector-requires t c κs = omega (arith, c .before .before .before .before .before .before .before .before .before .pre .1 .within)
-
 judge-odd-returns-2 : (t : ℕ) → judge-odd-lts.Need-returns-2 (
-  done-reads.Asked,
-  done-reads.Learnt,
   listed-span-reads.Asked,
   listed-span-reads.Learnt,
   later-right-reads.Asked,
   later-right-reads.Learnt,
-  judge-sector-reads.Asked,
-  judge-sector-reads.Learnt,
   judge-even-below t,
   judge-even.Post,
 ) (judge-odd-at t) judge-odd.Post
 judge-odd-returns-2 t c =
-    let a = c .before .before .before .before .before .before .before .before .before .before .args in
-    let s = c .before .before .before .before .before .listed-span in
-    let f = front (a .p) (a .track .now) (a .marks .now) (a .starts .now) (s .result .length) (c .before .before .before .before .before .before .before .before .before .before .pre .1) (s .ensures .0) (omega (arith, c .before .before .before .before .before .before .if1 .left)) in
-    front-wrong (asHome (a .h)) 0 (asAddress (a .named)) (a .p) (s .result .length) (a .track .now) (a .marks .now) (a .starts .now) f (s .result .last) (s .ensures .1) (sym (c .before .before .before .later-right .ensures) ∙ not-true _ (c .before .before .if2 .taken)) _ (c .judge-sector .ensures)
+    let a = c .before .before .before .before .before .before .before .before .args in
+    let s = c .before .before .before .listed-span in
+    let f = front (a .p) (a .track .now) (a .marks .now) (a .starts .now) (s .result .length) (c .before .before .before .before .before .before .before .before .pre .1) (s .ensures .0) (omega (arith, c .before .before .before .before .if1 .left)) in
+    wrong-here (asHome (a .h)) 1 (asAddress (a .named)) (a .p) (s .result .length) (a .track .now) (a .marks .now) (a .starts .now) f (s .result .last) (s .ensures .1) (front-count (a .p) (s .result .length) (a .track .now) (a .marks .now) (a .starts .now) (c .before .before .before .before .before .before .before .before .pre .1) f) (sym (c .before .later-right .ensures) ∙ not-true _ (c .if2 .taken))
 
 judge-odd-sub-judge-even : (t : ℕ) → judge-odd-lts.Need-sub-judge-even (
-  done-reads.Asked,
-  done-reads.Learnt,
   listed-span-reads.Asked,
   listed-span-reads.Learnt,
   later-right-reads.Asked,
   later-right-reads.Learnt,
-  judge-sector-reads.Asked,
-  judge-sector-reads.Learnt,
   judge-even-below t,
   judge-even.Post,
 ) (judge-odd-at t) judge-odd.Post
@@ -712,14 +429,10 @@ judge-odd-sub-judge-even t c =
     omega (arith, f .fits)
 
 judge-odd-part-judge-even-start : (t : ℕ) → judge-odd-lts.Need-part-judge-even-start (
-  done-reads.Asked,
-  done-reads.Learnt,
   listed-span-reads.Asked,
   listed-span-reads.Learnt,
   later-right-reads.Asked,
   later-right-reads.Learnt,
-  judge-sector-reads.Asked,
-  judge-sector-reads.Learnt,
   judge-even-below t,
   judge-even.Post,
 ) (judge-odd-at t) judge-odd.Post
@@ -730,14 +443,10 @@ judge-odd-part-judge-even-start t c =
     omega (arith, f .fits)
 
 judge-odd-part-judge-even-end : (t : ℕ) → judge-odd-lts.Need-part-judge-even-end (
-  done-reads.Asked,
-  done-reads.Learnt,
   listed-span-reads.Asked,
   listed-span-reads.Learnt,
   later-right-reads.Asked,
   later-right-reads.Learnt,
-  judge-sector-reads.Asked,
-  judge-sector-reads.Learnt,
   judge-even-below t,
   judge-even.Post,
 ) (judge-odd-at t) judge-odd.Post
@@ -748,14 +457,10 @@ judge-odd-part-judge-even-end t c =
     omega (arith, f .fits)
 
 judge-odd-sub-judge-even-2 : (t : ℕ) → judge-odd-lts.Need-sub-judge-even-2 (
-  done-reads.Asked,
-  done-reads.Learnt,
   listed-span-reads.Asked,
   listed-span-reads.Learnt,
   later-right-reads.Asked,
   later-right-reads.Learnt,
-  judge-sector-reads.Asked,
-  judge-sector-reads.Learnt,
   judge-even-below t,
   judge-even.Post,
 ) (judge-odd-at t) judge-odd.Post
@@ -766,14 +471,10 @@ judge-odd-sub-judge-even-2 t c =
     omega (arith, f .fits, c .before .before .before .before .before .before .before .before .before .pre .1 .lengths)
 
 judge-odd-part-judge-even-start-2 : (t : ℕ) → judge-odd-lts.Need-part-judge-even-start-2 (
-  done-reads.Asked,
-  done-reads.Learnt,
   listed-span-reads.Asked,
   listed-span-reads.Learnt,
   later-right-reads.Asked,
   later-right-reads.Learnt,
-  judge-sector-reads.Asked,
-  judge-sector-reads.Learnt,
   judge-even-below t,
   judge-even.Post,
 ) (judge-odd-at t) judge-odd.Post
@@ -784,14 +485,10 @@ judge-odd-part-judge-even-start-2 t c =
     omega (arith, f .fits, c .before .before .before .before .before .before .before .before .before .pre .1 .lengths)
 
 judge-odd-part-judge-even-end-2 : (t : ℕ) → judge-odd-lts.Need-part-judge-even-end-2 (
-  done-reads.Asked,
-  done-reads.Learnt,
   listed-span-reads.Asked,
   listed-span-reads.Learnt,
   later-right-reads.Asked,
   later-right-reads.Learnt,
-  judge-sector-reads.Asked,
-  judge-sector-reads.Learnt,
   judge-even-below t,
   judge-even.Post,
 ) (judge-odd-at t) judge-odd.Post
@@ -802,14 +499,10 @@ judge-odd-part-judge-even-end-2 t c =
     omega (arith, f .fits, c .before .before .before .before .before .before .before .before .before .pre .1 .lengths)
 
 judge-odd-sub-judge-even-3 : (t : ℕ) → judge-odd-lts.Need-sub-judge-even-3 (
-  done-reads.Asked,
-  done-reads.Learnt,
   listed-span-reads.Asked,
   listed-span-reads.Learnt,
   later-right-reads.Asked,
   later-right-reads.Learnt,
-  judge-sector-reads.Asked,
-  judge-sector-reads.Learnt,
   judge-even-below t,
   judge-even.Post,
 ) (judge-odd-at t) judge-odd.Post
@@ -820,14 +513,10 @@ judge-odd-sub-judge-even-3 t c =
     omega (arith, f .listed)
 
 judge-odd-part-judge-even-start-3 : (t : ℕ) → judge-odd-lts.Need-part-judge-even-start-3 (
-  done-reads.Asked,
-  done-reads.Learnt,
   listed-span-reads.Asked,
   listed-span-reads.Learnt,
   later-right-reads.Asked,
   later-right-reads.Learnt,
-  judge-sector-reads.Asked,
-  judge-sector-reads.Learnt,
   judge-even-below t,
   judge-even.Post,
 ) (judge-odd-at t) judge-odd.Post
@@ -838,14 +527,10 @@ judge-odd-part-judge-even-start-3 t c =
     omega (arith, f .listed)
 
 judge-odd-part-judge-even-end-3 : (t : ℕ) → judge-odd-lts.Need-part-judge-even-end-3 (
-  done-reads.Asked,
-  done-reads.Learnt,
   listed-span-reads.Asked,
   listed-span-reads.Learnt,
   later-right-reads.Asked,
   later-right-reads.Learnt,
-  judge-sector-reads.Asked,
-  judge-sector-reads.Learnt,
   judge-even-below t,
   judge-even.Post,
 ) (judge-odd-at t) judge-odd.Post
@@ -856,14 +541,10 @@ judge-odd-part-judge-even-end-3 t c =
     omega (arith, f .listed)
 
 judge-odd-add-judge-even : (t : ℕ) → judge-odd-lts.Need-add-judge-even (
-  done-reads.Asked,
-  done-reads.Learnt,
   listed-span-reads.Asked,
   listed-span-reads.Learnt,
   later-right-reads.Asked,
   later-right-reads.Learnt,
-  judge-sector-reads.Asked,
-  judge-sector-reads.Learnt,
   judge-even-below t,
   judge-even.Post,
 ) (judge-odd-at t) judge-odd.Post
@@ -874,14 +555,10 @@ judge-odd-add-judge-even t c =
     omega (arith, f .fits, c .before .before .before .before .before .before .before .before .before .before .before .pre .1 .within)
 
 judge-odd-judge-even-requires : (t : ℕ) → judge-odd-lts.Need-judge-even-requires (
-  done-reads.Asked,
-  done-reads.Learnt,
   listed-span-reads.Asked,
   listed-span-reads.Learnt,
   later-right-reads.Asked,
   later-right-reads.Learnt,
-  judge-sector-reads.Asked,
-  judge-sector-reads.Learnt,
   judge-even-below t,
   judge-even.Post,
 ) (judge-odd-at t) judge-odd.Post
@@ -892,14 +569,10 @@ judge-odd-judge-even-requires t c κs =
     (omega (arith, f .opening, f .fits, length-drop (s .result .length) (a .track .now), ap length (part-all (s .result .length) (a .track .now))), rest-next (a .p) (s .result .length) (a .track .now) (a .marks .now) (a .starts .now) f)
 
 judge-odd-returns-3 : (t : ℕ) → judge-odd-lts.Need-returns-3 (
-  done-reads.Asked,
-  done-reads.Learnt,
   listed-span-reads.Asked,
   listed-span-reads.Learnt,
   later-right-reads.Asked,
   later-right-reads.Learnt,
-  judge-sector-reads.Asked,
-  judge-sector-reads.Learnt,
   judge-even-below t,
   judge-even.Post,
 ) (judge-odd-at t) judge-odd.Post
@@ -907,24 +580,19 @@ judge-odd-returns-3 t c =
     let a = c .before .before .before .before .before .before .before .before .before .before .before .before .args in
     let s = c .before .before .before .before .before .before .before .listed-span in
     let f = front (a .p) (a .track .now) (a .marks .now) (a .starts .now) (s .result .length) (c .before .before .before .before .before .before .before .before .before .before .before .before .pre .1) (s .ensures .0) (omega (arith, c .before .before .before .before .before .before .before .before .if1 .left)) in
-    c .judge-even .ensures ∙ front-right (asHome (a .h)) 0 (asAddress (a .named)) (a .p) (s .result .length) (a .track .now) (a .marks .now) (a .starts .now) f (s .result .last) (s .ensures .1) (sym (c .before .before .before .before .before .later-right .ensures) ∙ not-false _ (c .before .before .before .before .if2 .left))
+    c .judge-even .ensures ∙ rw (part-all (s .result .length) (a .track .now), part-all (s .result .length) (a .marks .now)) (wrong-later (asHome (a .h)) 1 (asAddress (a .named)) (a .p) (s .result .length) (a .track .now) (a .marks .now) (a .starts .now) f (s .result .last) (s .ensures .1) (sym (c .before .before .before .before .before .later-right .ensures) ∙ not-false _ (c .before .before .before .before .if2 .left)))
 
 pub +judge-even+judge-odd-spec : {M : Type 1} → statement M
 +judge-even+judge-odd-spec = close μ-judge-even μ-judge-odd (λ t. judge-even-lts.spec (
-  done-reads.Asked,
-  done-reads.Learnt,
   listed-span-reads.Asked,
   listed-span-reads.Learnt,
   later-right-reads.Asked,
   later-right-reads.Learnt,
-  judge-sector-reads.Asked,
-  judge-sector-reads.Learnt,
   judge-odd-below t,
   judge-odd.Post,
 )
     (judge-even-at t)
     judge-even.Post
-    (judge-even-done-requires t)
     (judge-even-returns t)
     (judge-even-add-listed-span t)
     (judge-even-listed-span-requires t)
@@ -932,10 +600,6 @@ pub +judge-even+judge-odd-spec : {M : Type 1} → statement M
     (judge-even-part-later-right-start t)
     (judge-even-part-later-right-end t)
     (judge-even-later-right-requires t)
-    (judge-even-sub-judge-sector t)
-    (judge-even-part-judge-sector-start t)
-    (judge-even-part-judge-sector-end t)
-    (judge-even-judge-sector-requires t)
     (judge-even-returns-2 t)
     (judge-even-sub-judge-odd t)
     (judge-even-part-judge-odd-start t)
@@ -950,20 +614,15 @@ pub +judge-even+judge-odd-spec : {M : Type 1} → statement M
     (judge-even-judge-odd-requires t)
     (judge-even-returns-3 t))
     λ t. judge-odd-lts.spec (
-      done-reads.Asked,
-      done-reads.Learnt,
       listed-span-reads.Asked,
       listed-span-reads.Learnt,
       later-right-reads.Asked,
       later-right-reads.Learnt,
-      judge-sector-reads.Asked,
-      judge-sector-reads.Learnt,
       judge-even-below t,
       judge-even.Post,
     )
     (judge-odd-at t)
     judge-odd.Post
-    (judge-odd-done-requires t)
     (judge-odd-returns t)
     (judge-odd-add-listed-span t)
     (judge-odd-listed-span-requires t)
@@ -971,10 +630,6 @@ pub +judge-even+judge-odd-spec : {M : Type 1} → statement M
     (judge-odd-part-later-right-start t)
     (judge-odd-part-later-right-end t)
     (judge-odd-later-right-requires t)
-    (judge-odd-sub-judge-sector t)
-    (judge-odd-part-judge-sector-start t)
-    (judge-odd-part-judge-sector-end t)
-    (judge-odd-judge-sector-requires t)
     (judge-odd-returns-2 t)
     (judge-odd-sub-judge-even t)
     (judge-odd-part-judge-even-start t)

@@ -1,11 +1,11 @@
--- `judge_sectors` meets its contract: sector 0 by its own span, and what is left behind it by the odd sector's check.
+-- `judge_sectors` meets its contract: sector 0 by its own span, and what is left behind it by the later sectors' check.
 use mathlib.Core.Path.{refl, sym, _∙_}
 use Prim.Native.Nat.{_-_}
 use native.Mathlib.Omega.{arith}
 use lib.ListN.{length, getD}
 use borrow.Author.Tests.{not-true, not-false}
 use Rattle.sector.specs.As.{asAddress, asHome}
-use Rattle.accepting.proofs.AcceptFirst.{first-front, first-rest, first-missing, first-refused, first-good}
+use Rattle.accepting.proofs.AcceptFirst.{first-front, first-missing, first-refused, first-good}
 use borrow.Author.Needs.{needs}
 use Rattle.accepting.proofs.judge_sectors.Statement.{statement}
 use Rattle.accepting.proofs.judge_sectors.Tie as tie
@@ -92,53 +92,19 @@ part-address-in-end c =
 address-in-requires : tie.Need-address-in-requires
 address-in-requires c κs = search needs
 
-sub-judge-odd : tie.Need-sub-judge-odd
-sub-judge-odd c =
+judge-later-requires : tie.Need-judge-later-requires
+judge-later-requires c κs =
     let a = c .before .before .before .before .before .before .before .before .before .before .before .before .before .args in
     let s = c .before .before .before .before .before .before .before .listed-span in
     let f = first-front (a .p) (a .track .now) (a .marks .now) (a .starts .now) (s .result .length) (c .before .before .before .before .before .before .before .before .before .before .before .before .before .pre) (sym (c .before .before .before .before .before .before .before .before .before .opens-plain .ensures) ∙ not-false _ (c .before .before .before .before .before .before .before .before .if1 .left)) (s .ensures .0) in
-    omega (arith, f .fits)
-
-part-judge-odd-start : tie.Need-part-judge-odd-start
-part-judge-odd-start c =
-    let a = c .before .before .before .before .before .before .before .before .before .before .before .before .before .args in
-    let s = c .before .before .before .before .before .before .before .listed-span in
-    let f = first-front (a .p) (a .track .now) (a .marks .now) (a .starts .now) (s .result .length) (c .before .before .before .before .before .before .before .before .before .before .before .before .before .pre) (sym (c .before .before .before .before .before .before .before .before .before .opens-plain .ensures) ∙ not-false _ (c .before .before .before .before .before .before .before .before .if1 .left)) (s .ensures .0) in
-    omega (arith, f .fits)
-
-part-judge-odd-end : tie.Need-part-judge-odd-end
-part-judge-odd-end c = search needs
-
-sub-judge-odd-2 : tie.Need-sub-judge-odd-2
-sub-judge-odd-2 c =
-    let a = c .before .before .before .before .before .before .before .before .before .before .before .before .before .before .args in
-    let s = c .before .before .before .before .before .before .before .before .listed-span in
-    let f = first-front (a .p) (a .track .now) (a .marks .now) (a .starts .now) (s .result .length) (c .before .before .before .before .before .before .before .before .before .before .before .before .before .before .pre) (sym (c .before .before .before .before .before .before .before .before .before .before .opens-plain .ensures) ∙ not-false _ (c .before .before .before .before .before .before .before .before .before .if1 .left)) (s .ensures .0) in
-    omega (arith, f .fits, c .before .before .before .before .before .before .before .before .before .before .before .before .before .before .pre .lengths)
-
-part-judge-odd-start-2 : tie.Need-part-judge-odd-start-2
-part-judge-odd-start-2 c =
-    let a = c .before .before .before .before .before .before .before .before .before .before .before .before .before .before .args in
-    let s = c .before .before .before .before .before .before .before .before .listed-span in
-    let f = first-front (a .p) (a .track .now) (a .marks .now) (a .starts .now) (s .result .length) (c .before .before .before .before .before .before .before .before .before .before .before .before .before .before .pre) (sym (c .before .before .before .before .before .before .before .before .before .before .opens-plain .ensures) ∙ not-false _ (c .before .before .before .before .before .before .before .before .before .if1 .left)) (s .ensures .0) in
-    omega (arith, f .fits, c .before .before .before .before .before .before .before .before .before .before .before .before .before .before .pre .lengths)
-
-part-judge-odd-end-2 : tie.Need-part-judge-odd-end-2
-part-judge-odd-end-2 c = search needs
-
-judge-odd-requires : tie.Need-judge-odd-requires
-judge-odd-requires c κs =
-    let a = c .before .before .before .before .before .before .before .before .before .before .before .before .before .before .before .args in
-    let s = c .before .before .before .before .before .before .before .before .before .listed-span in
-    let f = first-front (a .p) (a .track .now) (a .marks .now) (a .starts .now) (s .result .length) (c .before .before .before .before .before .before .before .before .before .before .before .before .before .before .before .pre) (sym (c .before .before .before .before .before .before .before .before .before .before .before .opens-plain .ensures) ∙ not-false _ (c .before .before .before .before .before .before .before .before .before .before .if1 .left)) (s .ensures .0) in
-    first-rest (a .p) (s .result .length) (a .track .now) (a .marks .now) (a .starts .now) f
+    (f .rest, (f .fits, c .before .before .before .before .before .before .before .before .before .before .before .before .before .pre .lengths, c .before .before .before .before .before .before .before .before .before .before .before .before .before .pre .within))
 
 returns-3 : tie.Need-returns-3
 returns-3 c =
-    let a = c .before .before .before .before .before .before .before .before .before .before .before .before .before .before .before .before .args in
-    let s = c .before .before .before .before .before .before .before .before .before .before .listed-span in
-    let f = first-front (a .p) (a .track .now) (a .marks .now) (a .starts .now) (s .result .length) (c .before .before .before .before .before .before .before .before .before .before .before .before .before .before .before .before .pre) (sym (c .before .before .before .before .before .before .before .before .before .before .before .before .opens-plain .ensures) ∙ not-false _ (c .before .before .before .before .before .before .before .before .before .before .before .if1 .left)) (s .ensures .0) in
-    c .judge-odd .ensures ∙ first-good (asHome (a .h)) (a .p) (s .result .length) (a .track .now) (a .marks .now) (a .starts .now) f (s .result .last) (s .ensures .1) _ (c .before .before .before .before .before .before .before .judge-sector .ensures) (asAddress (c .before .before .before .address-in .result)) (c .before .before .before .address-in .ensures) (c .before .before .before .before .before .if2 .left)
+    let a = c .before .before .before .before .before .before .before .before .before .before .before .before .before .before .args in
+    let s = c .before .before .before .before .before .before .before .before .listed-span in
+    let f = first-front (a .p) (a .track .now) (a .marks .now) (a .starts .now) (s .result .length) (c .before .before .before .before .before .before .before .before .before .before .before .before .before .before .pre) (sym (c .before .before .before .before .before .before .before .before .before .before .opens-plain .ensures) ∙ not-false _ (c .before .before .before .before .before .before .before .before .before .if1 .left)) (s .ensures .0) in
+    c .judge-later .ensures ∙ first-good (asHome (a .h)) (a .p) (s .result .length) (a .track .now) (a .marks .now) (a .starts .now) f (s .result .last) (s .ensures .1) _ (c .before .before .before .before .before .judge-sector .ensures) (asAddress (c .before .address-in .result)) (c .before .address-in .ensures) (c .before .before .before .if2 .left)
 
 pub judge-sectors-spec : {M : Type 1} → statement M
 judge-sectors-spec =
@@ -159,11 +125,5 @@ judge-sectors-spec =
     part-address-in-start
     part-address-in-end
     address-in-requires
-    sub-judge-odd
-    part-judge-odd-start
-    part-judge-odd-end
-    sub-judge-odd-2
-    part-judge-odd-start-2
-    part-judge-odd-end-2
-    judge-odd-requires
+    judge-later-requires
     returns-3)
