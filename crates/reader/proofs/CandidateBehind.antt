@@ -9,8 +9,8 @@ use lib.ListN.{length, take, drop, length-drop}
 use lib.Seq.{drop-drop}
 use borrow.Author.Tests.{leb-true, leb-false, eqb-true}
 use Rattle.base.specs.Pick.{pick}
-use Rattle.format.specs.Answer.{homeMissing}
-use Rattle.format.specs.Judged.{Judged}
+use Rattle.format.specs.Answer.{Answer, homeMissing}
+use Rattle.format.specs.Judged.{Judged, refused}
 use Rattle.format.specs.Opening.{opens}
 use Rattle.format.specs.Span.{unmarkedRun, runsToIndex, spanLength}
 use Rattle.format.specs.Count.{countFits, countClosed}
@@ -69,6 +69,17 @@ past-span h p n c o e l f =
         let j : p + 1 + i ≡ p + suc i = omega arith in
         ap opens (drop-drop i (p + 1) c ∙ ap (λ (q : ℕ). drop q c) j ∙ sym (drop-drop (suc i) p c))
         ∙ span-closed (drop p c) (suc i) o (omega arith) (omega arith)
+
+-- Where an opening stands one cell before place p, the candidates of a track without home from there on are those behind the opening.
+pub past-opening-cells : (a : Answer) (p : ℕ) (c : List ℕ) → 0 < p → opens (drop (p - 1) c) ≡ true → candidatesAt (refused a) p c ≡ candidatesAt (refused a) (p + 7) c
+past-opening-cells a p c l o =
+    candidates-past (refused a) 7 p (drop p c) closed (first-nowhere a p (p + 7)) ∙ ap (candidatesFrom (refused a) (p + 7)) (drop-drop 7 p c)
+  where
+    closed : (i : ℕ) → i < 7 → opens (drop i (drop p c)) ≡ false
+    closed i u =
+        let j : p + i ≡ p - 1 + suc i = omega arith in
+        ap opens (drop-drop i p c ∙ ap (λ (q : ℕ). drop q c) j ∙ sym (drop-drop (suc i) (p - 1) c))
+        ∙ within-opening (drop (p - 1) c) (suc i) o (omega arith) (omega arith)
 
 -- The first of the candidates of c, which starts at place p, stands at its place.
 first-stands : (h : Judged ℕ) (p : ℕ) (c : List ℕ) (x : Candidate) → x ∷ [] ≡ take 1 (candidatesFrom h p c)

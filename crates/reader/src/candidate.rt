@@ -112,6 +112,9 @@ fn stands_at(track: &[u8], marks: &[u8], home: search::Found, p: usize) -> Stand
 fn next_place(track: &[u8], marks: &[u8], home: search::Found, p: usize) -> usize
     ensures { λ r. ⌜ (p ≤ r) × (candidatesFrom (judgedPlace home) p (drop p (cells (now (track .entry)) (now (marks .entry)))) ≡ candidatesFrom (judgedPlace home) r (drop r (cells (now (track .entry)) (now (marks .entry))))) ⌝ }
 {
+    if search::opens_marked(track, marks, p) {
+        return p;
+    }
     let q = search::next_opening(track, marks, p);
     match home {
         search::Found::At(h) => {

@@ -11,6 +11,7 @@ use crate::candidate::LAST_FIRST_COUNT;
 use crate::candidate::Standing;
 use crate::candidate::next_candidate;
 use crate::candidate::rest_of;
+use format::layout::MARKED;
 
 // What a step gives: the place of the candidate's opening, its flag, S, KL and DL.
 pub struct Visited {
@@ -37,12 +38,31 @@ fn home_ahead(track: &[u8], marks: &[u8], from: usize) -> search::Found
     search::find_home(track, marks)
 }
 
+// Where the search from place `from` on starts: where home plays no part, behind an opening of which `from` is the second cell, as none opens within it.
+fn search_start(track: &[u8], marks: &[u8], home: search::Found, from: usize) -> usize
+    ensures { λ r. ⌜ candidatesFrom (judgedPlace home) from (drop from (cells (now (track .entry)) (now (marks .entry)))) ≡ candidatesFrom (judgedPlace home) r (drop r (cells (now (track .entry)) (now (marks .entry)))) ⌝ }
+{
+    match home {
+        search::Found::At(_) => from,
+        search::Found::Nowhere => {
+            if from == 0 {
+                return from;
+            }
+            if search::opens_marked(track, marks, from - 1) {
+                return from + (MARKED - 1);
+            }
+            from
+        }
+    }
+}
+
 // The step of a reader over a pair that is lent within the rule: the first candidate at place `from` or later, 12 with none left.
 pub fn step_lent(track: &[u8], marks: &[u8], from: usize) -> Visit
     ensures { λ r. ⌜ judgedVisit r ≡ nextFrom from (candidates (cells (now (track .entry)) (now (marks .entry)))) ⌝ }
 {
     let home = home_ahead(track, marks, from);
-    match next_candidate(track, marks, home, from) {
+    let start = search_start(track, marks, home, from);
+    match next_candidate(track, marks, home, start) {
         Standing::Stands(x) => {
             let r = rest_of(track, x);
             Visit::At(Visited {

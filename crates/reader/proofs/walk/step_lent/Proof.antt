@@ -1,5 +1,6 @@
 -- `step_lent` meets its contract: the first candidate from the place on, or none.
 use mathlib.Core.Path.{sym, ap, _∙_}
+use lib.ListN.{take}
 use Rattle.format.specs.Answer.{Answer}
 use Rattle.format.specs.Judged.{good, refused}
 use Rattle.format.specs.Lent.{cells}
@@ -13,6 +14,9 @@ use Rattle.reader.proofs.walk.step_lent.Tie as tie
 
 home-ahead-requires : tie.Need-home-ahead-requires
 home-ahead-requires c κs = search needs
+
+search-start-requires : tie.Need-search-start-requires
+search-start-requires c κs = search needs
 
 next-candidate-requires : tie.Need-next-candidate-requires
 next-candidate-requires c κs = search needs
@@ -43,28 +47,31 @@ sector-missing-requires c κs = search needs
 
 returns : tie.Need-returns
 returns c =
-    let a = c .before .before .before .before .before .before .before .before .before .before .before .before .args in
+    let a = c .before .before .before .before .before .before .before .before .before .before .before .before .before .args in
     let n = c .before .before .before .before .before .before .before .before .next-candidate in
-    let h = c .before .before .before .before .before .before .before .before .before .home-ahead in
+    let s = c .before .before .before .before .before .before .before .before .before .search-start in
+    let h = c .before .before .before .before .before .before .before .before .before .before .home-ahead in
     let g = c .before .before .before .before .before .before .x .given in
     let x = asCandidate (a .track .now) (g .0 .0) in
     let v = visited-is x _ _ _ _ _ (c .before .before .before .before .rest-of .ensures) (c .before .before .before .byte-at .ensures) (c .before .before .byte-at2 .ensures) (c .before .key-length .ensures) (c .data-length .ensures) in
     ap (λ (w : Visited). good w) v
-    ∙ sym (next-good (cells (a .track .now) (a .marks .now)) (judgedPlace (h .result)) (a .from) (h .ensures) x (rw (g .1) at (n .ensures)))
+    ∙ sym (next-good (cells (a .track .now) (a .marks .now)) (judgedPlace (h .result)) (a .from) (h .ensures) x ((rw (g .1) at (n .ensures)) ∙ ap (take 1) (sym (s .ensures))))
 
 returns-2 : tie.Need-returns-2
 returns-2 c =
-    let a = c .before .before .before .before .before .before .before .args in
+    let a = c .before .before .before .before .before .before .before .before .args in
     let n = c .before .before .before .next-candidate in
-    let h = c .before .before .before .before .home-ahead in
+    let s = c .before .before .before .before .search-start in
+    let h = c .before .before .before .before .before .home-ahead in
     ap (λ (w : Answer). refused w) (c .sector-missing .ensures)
-    ∙ sym (next-none (cells (a .track .now) (a .marks .now)) (judgedPlace (h .result)) (a .from) (h .ensures) (rw (c .before .enum-told .given .1) at (n .ensures)))
+    ∙ sym (next-none (cells (a .track .now) (a .marks .now)) (judgedPlace (h .result)) (a .from) (h .ensures) ((rw (c .before .enum-told .given .1) at (n .ensures)) ∙ ap (take 1) (sym (s .ensures))))
 
 pub step-lent-spec : {M : Type 1} → statement M
 step-lent-spec =
     tie.close
     (tie.spec
     home-ahead-requires
+    search-start-requires
     next-candidate-requires
     enum-known-x
     rest-of-requires
