@@ -3,13 +3,13 @@ use mathlib.Core.Path.{_≡_, refl, sym, ap, _∙_}
 use Prim.Native.Nat.{ℕ, zero, suc, _+_, _%_}
 use native.Mathlib.Omega.{arith}
 use mathlib.Core.Bool.{Bool, false}
-use mathlib.Core.List.{List, [], _∷_}
-use lib.ListN.{length, getD, drop}
+use mathlib.Core.List.{List, _∷_}
+use lib.ListN.{length, drop}
 use lib.Dec.{eqb}
 use borrow.Author.Tests.{ne-eqb, eqb-true, eqb-false}
 use Rattle.format.specs.Answer.{Answer, spanTooShort, countCheckWrong, countFieldsWrong}
-use Rattle.format.specs.Judged.{Judged, good, refused, then, answerOf}
-use Rattle.format.specs.Flag.{sequenceRight, countFlagRight}
+use Rattle.format.specs.Judged.{good, answerOf}
+use Rattle.format.specs.Flag.{sequenceRight}
 use Rattle.format.specs.Address.{Address}
 use Rattle.format.specs.Home.{Home}
 use Rattle.format.specs.Count.{Settled, settled, countFits, countClosed, countFieldsRight}
@@ -72,10 +72,6 @@ module _ (h : Home) (i : ℕ) (x : Settled) (p : ℕ) (last : Bool) (r : List �
       let n : answerOf (judgeCount h i x p r) .number ≡ 0 → ⊥ = eqb-false _ _ z in
       absurd (n (ap (λ (a : Answer). a .number) (sym (refusal-stays (judgeCount h i x p r) (λ _. readBlocks (isFirst i) p last r) n)) ∙ e)))
 
-then-same : {A B : Type 0} (j : Judged A) (k l : A → Judged B) → ((x : A) → k x ≡ l x) → then j k ≡ then j l
-then-same (good x) k l h = h x
-then-same (refused a) k l h = refl
-
 -- A later span is good where its answer is 0.
 later-good : (h : Home) (i : ℕ) (x : Settled) (p : ℕ) (last : Bool) (g : List ℕ) → answerOf (judgeSector h (suc i) x p last (drop 8 g)) .number ≡ 0
     → readSpan h (suc i) x p last g ≡ good (sectorIn false (drop 8 g))
@@ -88,23 +84,6 @@ unfolding sequenceRight
 sequence-two i f =
     let e : suc (suc (suc i)) % 2 ≡ suc i % 2 = omega arith in
     rw (e, ne-eqb (suc i) 0 (λ q. omega arith), ne-eqb (suc (suc (suc i))) 0 (λ q. omega arith))
-
--- A later span is read alike two positions later.
-span-two : (h : Home) (i : ℕ) (x : Settled) (p : ℕ) (last : Bool) (g : List ℕ) → readSpan h (suc i) x p last g ≡ readSpan h (suc (suc (suc i))) x p last g
-unfolding readSpan judgeSector judgeCount countFieldsRight countFlagRight
-span-two h i x p last g = rw (sequence-two i (getD (drop 8 g) 0 0))
-
--- And so are later spans.
-spans-two : (h : Home) (i : ℕ) (x : Settled) (p : ℕ) (gs : List (List ℕ)) → readSpans h (suc i) x p gs ≡ readSpans h (suc (suc (suc i))) x p gs
-unfolding readSpans
-spans-two h i x p [] = refl
-spans-two h i x p (g ∷ gs) =
-    rw (span-two h i x p (none gs) g)
-    (then-same (readSpan h (suc (suc (suc i))) x p (none gs) g) _ _ (λ s. rw (spans-two h (suc i) (settle x s) (p + length g) gs)))
-
--- With the same answer.
-pub answers-two : (h : Home) (i : ℕ) (x : Settled) (p : ℕ) (gs : List (List ℕ)) → answerOf (readSpans h (suc i) x p gs) ≡ answerOf (readSpans h (suc (suc (suc i))) x p gs)
-answers-two h i x p gs = ap answerOf (spans-two h i x p gs)
 
 -- The later spans of which g is the first, where a is settled.
 module _ (h : Home) (i : ℕ) (a : Address) (p : ℕ) (g : List ℕ) (gs : List (List ℕ)) where

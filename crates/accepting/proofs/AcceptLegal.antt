@@ -1,8 +1,8 @@
 -- Where no mark is stray every mark is 0 or 1, so that legal marks need be looked for only where a track is refused before its sectors are judged.
 use mathlib.Core.Path.{_≡_, refl, sym, ap, _∙_}
-use Prim.Native.Nat.{ℕ, _+_, _*_, _≤_, _<_}
+use Prim.Native.Nat.{ℕ, _+_, _*_, _<_}
 use native.Mathlib.Omega.{arith}
-use mathlib.Core.Bool.{Bool, true, false, _&&_}
+use mathlib.Core.Bool.{Bool, true, false}
 use mathlib.Core.List.{List}
 use mathlib.Core.Logic.{_⊎_, inl, inr}
 use lib.ListN.{length, getD, drop}
@@ -10,7 +10,7 @@ use lib.Seq.{getD-drop}
 use lib.Dec.{leb, eqb}
 use borrow.Author.Tests.{leb-true, leb-false, eqb-true}
 use Rattle.base.specs.Pick.{pick}
-use Rattle.format.specs.Answer.{Answer, lentWrong, markStray}
+use Rattle.format.specs.Answer.{Answer, lentWrong}
 use Rattle.format.specs.Judged.{Judged, good, refused, then, answerOf}
 use Rattle.format.specs.Lent.{lengthRight, marksLegal, lentForWriting, lentForReading, cells}
 use Rattle.format.specs.Home.{Home, judgeHome}

@@ -2,19 +2,17 @@
 use mathlib.Core.Path.{_≡_, refl, sym, ap, _∙_}
 use Prim.Native.Nat.{ℕ, suc, _+_, _-_, _≤_, _<_}
 use native.Mathlib.Omega.{arith}
-use mathlib.Core.Bool.{Bool, true, false, not, _||_}
+use mathlib.Core.Bool.{true, false, not, _||_}
 use mathlib.Core.List.{List, [], _∷_}
 use lib.ListN.{length, getD, take, drop, set, replicate, length-drop, length-set, length-replicate, getD-replicate}
 use lib.Seq.{drop-drop, getD-drop, getD-set-same, getD-set-other}
 use lib.Dec.{eqb}
-use borrow.Author.Tests.{eq-eqb, ne-eqb, eqb-true, eqb-false, le-leb}
+use borrow.Author.Tests.{eq-eqb, ne-eqb, eqb-true, eqb-false}
 use Rattle.format.specs.Answer.{sectorRepeated}
 use Rattle.format.specs.Judged.{Judged, good, refused, require}
 use Rattle.format.specs.Lent.{cells, unmarked}
-use Rattle.format.specs.Opening.{startsWith, plainOpening}
 use Rattle.format.specs.Count.{countNumber}
-use Rattle.format.specs.Span.{spanLength, spanRest, beforeOpening, laterSpans, spans, cleanSpan, cleanSpans}
-use Rattle.format.specs.Sector.{openingLength}
+use Rattle.format.specs.Span.{beforeOpening, laterSpans, spans, cleanSpan, cleanSpans}
 use Rattle.format.specs.Accept.{among}
 use Rattle.base.proofs.Tests.{cases, and-both}
 use Rattle.format.proofs.Cells.Opening.{unmarked-at, unmarked-drop}

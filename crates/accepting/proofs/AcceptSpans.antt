@@ -2,19 +2,12 @@
 use mathlib.Core.Path.{_≡_, refl, sym, ap, ap₂, _∙_}
 use Prim.Native.Nat.{ℕ, suc, _+_, _-_, _≤_, _<_}
 use native.Mathlib.Omega.{arith}
-use mathlib.Core.Bool.{Bool, true, false}
+use mathlib.Core.Bool.{true}
 use mathlib.Core.List.{List, [], _∷_, _++_}
 use lib.ListN.{length, getD, take, drop, length-append, length-drop}
 use lib.Dec.{leb}
 use borrow.Author.Tests.{lt-leb}
 use lib.Seq.{drop-at}
-use Rattle.format.specs.Answer.{Answer, done}
-use Rattle.format.specs.Judged.{Judged, answerOf}
-use Rattle.format.specs.Address.{Address}
-use Rattle.format.specs.Home.{Home}
-use Rattle.format.specs.Count.{Settled, settled}
-use Rattle.format.specs.Sector.{Sector, judgeSector}
-use Rattle.format.specs.Accept.{readSpans}
 use Rattle.format.specs.Lent.{cells}
 use Rattle.format.specs.Span.{spanLength, spanRest, beforeOpening, laterSpans, joined, none, cleanSpan, cleanSpans}
 use Rattle.base.proofs.Tests.{and-both}
@@ -25,11 +18,8 @@ use Rattle.format.proofs.Spans.Cutting.{before-joined, shape-later, later-joine
 use Rattle.format.proofs.Spans.SpanAgrees.{span-agrees}
 use Rattle.format.proofs.Track.Pairs.{length-cells, drop-cells}
 use Rattle.format.proofs.Find.CandidateBytes.{span-rest-bytes}
-use Rattle.sector.specs.Right.{sectorRight}
-use Rattle.sector.proofs.Right.{right-good, right-not}
 use Rattle.accepting.specs.Starts.{startsOf}
 use Rattle.accepting.specs.Accepting.{LaterSpans}
-use Rattle.accepting.proofs.AcceptAnswers.{spans-refused, spans-good}
 
 -- In a later position a span is clean as in any other.
 clean-two : (i j : ℕ) (gs : List (List ℕ)) → cleanSpans (suc i) gs ≡ cleanSpans (suc j) gs
@@ -138,43 +128,6 @@ unfolding cells laterSpans
 no-span [] m e = refl
 no-span (b ∷ t) m e = absurd (omega arith)
 
--- Nothing is left to read.
-pub later-none : (h : Home) (i : ℕ) (x : Settled) (p : ℕ) (t m : List ℕ) → length t ≡ 0 → answerOf (readSpans h i x p (laterSpans (cells t m))) ≡ done
-unfolding readSpans
-later-none h i x p t m e = rw (no-span t m e)
-
 -- What is left behind the first span of n cells, as slices.
 pub rest-next : (p n : ℕ) (t m ns : List ℕ) → Front p n t m ns → LaterSpans (p + n) (take (length t - n) (drop n t)) (take (length m - n) (drop n m)) (take (length ns - 1) (drop 1 ns))
 rest-next p n t m ns f = rw (part-all n t, part-all n m, part-all 1 ns) (f .rest)
-
--- The first span of what is left, in a later position, by the answer b that its bytes give.
-module _ (h : Home) (i : ℕ) (a : Address) (p n : ℕ) (t m ns : List ℕ) (f : Front p n t m ns) (last : Bool) (l : last ≡ leb (length ns) 1)
-    (b : Answer) (e : b ≡ answerOf (judgeSector h (suc i) (settled a) p last (take (n - 8) (drop 8 t)))) where
-  by-span : b ≡ answerOf (judgeSector h (suc i) (settled a) p (none (f .later)) (drop 8 (f .span)))
-  by-span = e ∙ ap₂ (λ (z : Bool) (r : List ℕ). answerOf (judgeSector h (suc i) (settled a) p z r)) (l ∙ f .last) (f .bytes)
-
-  -- It is refused.
-  pub front-refused : (b .number ≡ 0 → ⊥) → b ≡ answerOf (readSpans h (suc i) (settled a) p (laterSpans (cells t m)))
-  front-refused ne = rw (f .cut) (spans-refused h i a p (f .span) (f .later) b by-span ne)
-
-  -- It is good, and what is left behind it decides.
-  pub front-good : b .number ≡ 0
-      → answerOf (readSpans h (suc (suc i)) (settled a) (p + n) (laterSpans (cells (take (length t - n) (drop n t)) (take (length m - n) (drop n m)))))
-      ≡ answerOf (readSpans h (suc i) (settled a) p (laterSpans (cells t m)))
-  front-good z =
-      rw (part-all n t, part-all n m, f .later-cut, f .cut, ← f .size) (spans-good h i a p (f .span) (f .later) b by-span z)
-
--- The same by all its tests together.
-module _ (h : Home) (i : ℕ) (a : Address) (p n : ℕ) (t m ns : List ℕ) (f : Front p n t m ns) (last : Bool) (l : last ≡ leb (length ns) 1) where
-  -- One fails, and b is the answer.
-  pub front-wrong : sectorRight h (suc i) (settled a) last (take (n - 8) (drop 8 t)) ≡ false → (b : Answer) → b ≡ answerOf (judgeSector h (suc i) (settled a) p last (take (n - 8) (drop 8 t)))
-      → b ≡ answerOf (readSpans h (suc i) (settled a) p (laterSpans (cells t m)))
-  front-wrong w b e = front-refused h i a p n t m ns f last l b e (λ z. right-not h (suc i) (settled a) p last (take (n - 8) (drop 8 t)) w (ap (λ (x : Answer). x .number) (sym e) ∙ z))
-
-  -- All hold, and what is left behind it decides.
-  pub front-right : sectorRight h (suc i) (settled a) last (take (n - 8) (drop 8 t)) ≡ true
-      → answerOf (readSpans h (suc (suc i)) (settled a) (p + n) (laterSpans (cells (take (length t - n) (drop n t)) (take (length m - n) (drop n m)))))
-      ≡ answerOf (readSpans h (suc i) (settled a) p (laterSpans (cells t m)))
-  front-right w =
-      front-good h i a p n t m ns f last l (answerOf (judgeSector h (suc i) (settled a) p last (take (n - 8) (drop 8 t)))) refl
-      (ap (λ (j : Judged Sector). answerOf j .number) (right-good h (suc i) (settled a) p last (take (n - 8) (drop 8 t)) w))

@@ -8,11 +8,10 @@ use lib.ListN.{length, getD, take, drop, length-drop}
 use lib.Seq.{drop-drop}
 use lib.Dec.{leb}
 use borrow.Author.Tests.{le-leb, lt-leb, leb-true, leb-false}
-use Rattle.base.specs.Pick.{pick}
 use Rattle.format.specs.Answer.{Answer, done}
 use Rattle.format.specs.Judged.{Judged, answerOf}
 use Rattle.format.specs.Lent.{cells}
-use Rattle.format.specs.Flag.{sequenceRight, countFlagRight}
+use Rattle.format.specs.Flag.{countFlagRight}
 use Rattle.format.specs.Address.{Address}
 use Rattle.format.specs.Home.{Home}
 use Rattle.format.specs.Count.{Settled, settled, countFieldsRight}

@@ -1,15 +1,14 @@
 -- The places of the marked openings: from mark to mark, and as the places of the spans.
 use mathlib.Core.Path.{_≡_, refl, sym, ap, ap₂, _∙_}
-use Prim.Native.Nat.{ℕ, zero, suc, _+_, _-_, _*_, _≤_, _<_}
+use Prim.Native.Nat.{ℕ, zero, suc, _+_, _-_, _≤_, _<_}
 use native.Mathlib.Omega.{arith}
-use mathlib.Core.Bool.{Bool, true, false, _&&_}
-use mathlib.Core.List.{List, [], _∷_, _++_}
+use mathlib.Core.Bool.{true, false}
+use mathlib.Core.List.{List, [], _∷_}
 use lib.ListN.{length, getD, drop}
-use lib.Dec.{leb, ltb}
-use borrow.Author.Tests.{lt-leb}
+use lib.Dec.{ltb}
 use Rattle.format.specs.Answer.{markStray}
 use Rattle.format.specs.Judged.{Judged, good, refused, answerOf}
-use Rattle.format.specs.Opening.{markedOpening, opens}
+use Rattle.format.specs.Opening.{opens}
 use Rattle.format.specs.Span.{unmarkedRun, beforeOpening, laterSpans}
 use Rattle.format.specs.Accept.{judgeMarks}
 use Rattle.base.proofs.Tests.{cases}

@@ -1,12 +1,12 @@
 -- What the tests of a sector, taken together, say of its judgement.
-use mathlib.Core.Path.{_≡_, refl, sym, ap, _∙_}
+use mathlib.Core.Path.{_≡_, refl, sym}
 use Prim.Native.Nat.{ℕ, _+_}
 use native.Mathlib.Omega.{arith}
 use mathlib.Core.Bool.{Bool, true, false, _&&_}
 use mathlib.Core.List.{List}
-use Rattle.format.specs.Answer.{Answer, spanTooShort, countCheckWrong, countFieldsWrong, keyWrong, dataWrong}
+use Rattle.format.specs.Answer.{keyWrong, dataWrong}
 use Rattle.format.specs.Fault.{Fault, Tested, sound, faulty, demand}
-use Rattle.format.specs.Judged.{Judged, good, refused, then, require, requireSound, answerOf}
+use Rattle.format.specs.Judged.{good, then, requireSound, answerOf}
 use Rattle.format.specs.Home.{Home}
 use Rattle.format.specs.Count.{Settled, countFits, countClosed, countFieldsRight}
 use Rattle.format.specs.Block.{keyOffset, dataOffset, blocksFit, testKey, testData}

@@ -1,6 +1,6 @@
 -- `judge_numbers` meets its contract: the answer is that of the sectors left and of the numbers whose flags are set.
 use mathlib.Core.Path.{_≡_, refl, sym, ap, _∙_}
-use Prim.Native.Nat.{ℕ, _-_, _+_, _≤_, _<_}
+use Prim.Native.Nat.{ℕ, _-_, _+_, _≤_}
 use native.Mathlib.Omega.{arith}
 use borrow.Author.Needs.{needs}
 use lib.ListN.{length, getD, drop, replicate, length-drop, length-set, length-replicate}
