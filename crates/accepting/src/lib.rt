@@ -1,4 +1,6 @@
 // Accept: judges a lent track from its marks and its sectors to their numbers.
+#![tactic(auto)]
+
 ghost use Rattle.std.specs.Prelude.{◌≡◌, true, [], ◌-◌, ◌≤◌, length, get_or, drop, leb};
 ghost use Rattle.base.specs.Pick.{pick};
 ghost use Rattle.format.specs.Answer.{as_answer, lent_wrong};

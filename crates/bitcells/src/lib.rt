@@ -1,4 +1,6 @@
 // The drive's bit cells: from them to a track and its marks, and back.
+#![tactic(auto)]
+
 mod reading;
 mod writing;
 

@@ -1,4 +1,6 @@
 // The check of information bytes, and the test of a stored check.
+#![tactic(auto)]
+
 ghost use Rattle.std.specs.Prelude.{◌≡◌, ◌+◌, ◌*◌};
 ghost use Rattle.crc.specs.Check.{coefficients, remainder, check_of, agrees};
 

@@ -1,4 +1,6 @@
 // The check under a name for C, so that it can be timed and compared alone.
+#![tactic(auto)]
+
 ghost use Rattle.std.specs.Prelude.{◌≡◌};
 ghost use Rattle.crc.specs.Check.{check_of};
 

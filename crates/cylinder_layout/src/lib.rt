@@ -1,4 +1,6 @@
 // What reading and writing the file of a cylinder share: its lengths, and the number of its tracks.
+#![tactic(auto)]
+
 ghost use Rattle.std.specs.Prelude.{◌≡◌};
 ghost use Rattle.cylinder.specs.Cylinder.{track_count_right};
 ghost use Rattle.cylinder.specs.Packed.{packed_size};

@@ -1,4 +1,6 @@
 // Reading the one file of a cylinder into lent slices.
+#![tactic(auto)]
+
 mod judging;
 mod reading;
 mod table;

@@ -1,4 +1,6 @@
 // Writing the one file of a cylinder from lent slices.
+#![tactic(auto)]
+
 ghost use Rattle.std.specs.Prelude.{◌≡◌, true, ◌++◌, ◌*◌, ◌≤◌, length};
 ghost use Rattle.base.specs.Laid.{laid_over};
 ghost use Rattle.format.specs.Answer.{as_answer};

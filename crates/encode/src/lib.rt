@@ -1,4 +1,6 @@
 // First-written form of home, of one sector and of gaps, written into lent parts of the track's bytes and marks.
+#![tactic(auto)]
+
 ghost use Rattle.std.specs.Prelude.{◌≡◌, ◌++◌, ◌+◌, ◌-◌, ◌≤◌, length, take, replicate};
 ghost use Rattle.format.specs.Layout.{gap_length, count_tail, head_length};
 ghost use Rattle.format.specs.Lent.{bytes_of, marks_of};

@@ -1,4 +1,6 @@
 // The answer of a call as code, made in one place for each row of the table.
+#![tactic(auto)]
+
 ghost use Rattle.std.specs.Prelude.{◌≡◌};
 ghost use Rattle.format.specs.Fault.{as_fault, fault_number};
 ghost use Rattle.format.specs.Answer.{as_answer, answer_at, fault_at, done, lent_wrong, home_missing, home_check_wrong, home_fields_wrong, mark_stray, first_count_missing, count_check_wrong, count_fields_wrong, span_too_short, key_wrong, data_wrong, sector_missing, sector_repeated, wanted_wrong, room_missing, pair_wrong, pattern_wrong, header_wrong, offset_wrong, file_length_wrong, spare_bits_set, buffer_too_short};

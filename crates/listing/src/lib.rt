@@ -1,4 +1,6 @@
 // List: an accepted track's sectors as records in a list that the caller lends.
+#![tactic(auto)]
+
 ghost use Rattle.std.specs.Prelude.{◌≡◌, ◌-◌, length, replicate};
 ghost use Rattle.format.specs.Answer.{as_answer};
 ghost use Rattle.format.specs.Judged.{answer_of};

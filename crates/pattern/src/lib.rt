@@ -1,4 +1,6 @@
 // The bit cells of one byte, as two cell bytes: what they stand for, and how they are made.
+#![tactic(auto)]
+
 ghost use Rattle.std.specs.Prelude.{◌≡◌, ◌≤◌};
 ghost use Rattle.crc.specs.Check.{digits};
 ghost use Rattle.pattern.specs.Pattern.{as_byte, first_cells, second_cells, clocks_for, data_cells, data_in, legal_pattern, mark_in};

@@ -1,4 +1,6 @@
 // The calls that read any lent track, sound or damaged, by its candidates: Find, Walk and Pair find.
+#![tactic(auto)]
+
 pub mod candidate;
 pub mod finding;
 pub mod pair;

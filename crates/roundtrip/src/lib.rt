@@ -1,1 +1,2 @@
 // Only laws: from the drive's bit cells to the record and back.
+#![tactic(auto)]

@@ -1,4 +1,6 @@
 // List into rows of eight numbers of 16 bits, the form in which the records reach C.
+#![tactic(auto)]
+
 ghost use Rattle.std.specs.Prelude.{◌≡◌, length};
 ghost use Rattle.format.specs.Answer.{as_answer};
 ghost use Rattle.format.specs.Judged.{answer_of};

@@ -1,4 +1,6 @@
 // Searching a lent track and its marks: the test of what is lent, openings, home and spans.
+#![tactic(auto)]
+
 ghost use Rattle.std.specs.Prelude.{◌≡◌, ◌+◌, ◌-◌, ◌≤◌, length, drop, eqb};
 ghost use Rattle.base.specs.Pick.{pick};
 ghost use Rattle.format.specs.Lent.{length_right, marks_legal, lent_for_writing, lent_for_reading, cells};

@@ -1,4 +1,6 @@
 // Judging a sector from the bytes of its own span: what follows its count's opening.
+#![tactic(auto)]
+
 ghost use Rattle.std.specs.Prelude.{◌≡◌};
 ghost use Rattle.format.specs.Answer.{as_answer};
 ghost use Rattle.format.specs.Judged.{answer_of};

@@ -1,4 +1,6 @@
 // Stepping over the sectors of a track, from the place of one count to the place of the next.
+#![tactic(auto)]
+
 ghost use Rattle.std.specs.Prelude.{◌≡◌, ◌≤◌, leb};
 ghost use Rattle.base.specs.Pick.{pick};
 ghost use Rattle.format.specs.Lent.{cells};

@@ -1,4 +1,6 @@
 // The C interface: plain numbers and byte slices in, one number of 64 bits out.
+#![tactic(auto)]
+
 ghost use Rattle.std.specs.Prelude.{◌≡◌, ◌≤◌};
 ghost use Rattle.format.specs.Answer.{as_answer};
 ghost use Rattle.reader.specs.Finding.{as_visited, as_part, judged_part, judged_visit};

@@ -1,6 +1,8 @@
 // Copies the records of a track out, sound or damaged. The track is given on standard input, its bytes and behind them as many marks. Writes a line for each S that Find
 // does not answer 12 for: S, the key and the data in hexadecimal, `-` for an empty one and `!` with the answer's number for a refused one, with 10 and 11 as in `!10.2` the second
 // number too; then `ended`.
+#![tactic(auto)]
+
 use libc::{STDIN_FILENO, STDOUT_FILENO};
 use reader::{Outcome, Wanted};
 

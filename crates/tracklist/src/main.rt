@@ -1,4 +1,6 @@
 // Lists a track that is given on standard input, its bytes and behind them as many marks: writes the track's address and flag and a line for each sector.
+#![tactic(auto)]
+
 use libc::{STDIN_FILENO, STDOUT_FILENO};
 use sector::Home;
 

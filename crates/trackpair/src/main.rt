@@ -1,6 +1,8 @@
 // Finds a record on a track or on the alternative that it names: `trackpair FIRST SECOND S`. Each file has a track's bytes and behind them as many marks. Writes two lines
 // for the key and two for the data: the track that the answer speaks of (1 or 2), its number, with 10 and 11 as in `10.2` the second number too, its place and the part's length;
 // and then the part itself.
+#![tactic(auto)]
+
 ghost use Rattle.std.specs.Prelude.{◌≤◌};
 
 use libc::{STDERR_FILENO, STDOUT_FILENO};

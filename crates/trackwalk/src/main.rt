@@ -1,5 +1,7 @@
 // Walks over a track, sound or damaged, that is given on standard input, its bytes and behind them as many marks: writes place, flag, S, KL and DL of each
 // count that can be read, from left to right, and then the number of the answer that ends the walk.
+#![tactic(auto)]
+
 use libc::{STDIN_FILENO, STDOUT_FILENO};
 
 // Writes a number and a space.

@@ -1,4 +1,6 @@
 // A walk from its start under a name for C, so that a whole walk can be timed and compared.
+#![tactic(auto)]
+
 ghost use Rattle.std.specs.Prelude.{◌≡◌};
 ghost use Rattle.station.specs.Packed.{packed_visit};
 ghost use Rattle.walking.specs.Walked.{visit_of};

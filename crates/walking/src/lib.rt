@@ -1,4 +1,6 @@
 // Walk: a reader that keeps a lent track and moves from one candidate to the next, left to right.
+#![tactic(auto)]
+
 ghost use Rattle.std.specs.Prelude.{◌≡◌};
 ghost use Rattle.format.specs.Walk.{place_after};
 ghost use Rattle.reader.specs.Finding.{judged_visit};

@@ -1,1 +1,2 @@
 // Only computed examples: the worked numbers of the scope document.
+#![tactic(auto)]

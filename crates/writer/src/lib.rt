@@ -1,4 +1,6 @@
 // Writing a lent track: a blank one, one more sector, and a sector with a new key and data.
+#![tactic(auto)]
+
 ghost use Rattle.std.specs.Prelude.{◌≡◌, true, ◌&&◌, ◌+◌, ◌-◌, ◌≤◌, length, take, leb, eqb};
 ghost use Rattle.base.specs.Pick.{pick};
 ghost use Rattle.format.specs.Answer.{as_answer, done, room_missing};
