@@ -3,7 +3,7 @@ use mathlib.Core.Path.{◌≡◌, refl, sym, ap, ◌∙◌}
 use mathlib.Core.Logic.{◌⊎◌, inl, inr, ⊎_elim}
 use Prim.Native.Nat.{ℕ, zero, suc, ◌+◌, ◌≤◌}
 use native.Mathlib.Omega.{arith}
-use mathlib.Core.Bool.{Bool, true, false, not}
+use mathlib.Core.Bool.{Bool, true, false}
 use mathlib.Core.List.{List, [], ◌∷◌, ◌++◌}
 use lib.ListN.{length, drop, length-drop}
 use lib.Seq.{drop-append_seam, drop-append-le, drop-drop}
@@ -19,7 +19,7 @@ use Rattle.format.specs.Blocks.{Wanted, the_key, the_data, blocks_at, wanted_par
 use Rattle.format.specs.BlockFault.{FaultIn, refuses_block}
 use Rattle.format.specs.Span.{none, joined, clean_span, clean_spans}
 use Rattle.format.specs.Sector.{Sector, opening_length, is_first, sector_in, settle, judge_count, read_blocks, judge_sector, read_span}
-use Rattle.format.specs.Accept.{judge_marks, read_spans, placed_from, among, judge_numbers, Accepted, spans_of, first_count_end, judge_behind, accept_cells, accept}
+use Rattle.format.specs.Accept.{judge_marks, read_spans, placed_from, judge_numbers, Accepted, spans_of, first_count_end, judge_behind, accept_cells, accept}
 use Rattle.base.proofs.Tests.{false-true, and_both}
 use Rattle.format.proofs.Base.Judged.{good-refused, then-refused, require-refused}
 use Rattle.format.proofs.Spans.Cutting.{joined_spans}

@@ -1,12 +1,14 @@
 -- The judgements that look at no key and no data block: they never answer 10 or 11, and their second number is 0.
 use mathlib.Core.Path.{◌≡◌, refl, sym, ap, ◌∙◌}
 use Prim.Native.Nat.{ℕ, zero, suc}
-use mathlib.Core.Bool.{Bool, true, false}
+use mathlib.Core.Bool.{Bool, true, false, ◌&&◌}
 use mathlib.Core.List.{List, [], ◌∷◌}
+use Rattle.std.specs.Prelude.{leb, ltb}
 use Rattle.base.specs.Pick.{pick}
 use Rattle.format.specs.Answer.{Answer}
 use Rattle.format.specs.Judged.{Judged, good, refused, then, answer_of}
 use Rattle.format.specs.BlockFault.{refuses_block, SecondNone}
+use Rattle.format.specs.Opening.{opens}
 use Rattle.format.specs.Home.{Home, home_from, find_home, judge_home_of, judge_home}
 use Rattle.format.specs.Count.{Settled}
 use Rattle.format.specs.Blocks.{judge_fit}
@@ -46,7 +48,9 @@ home_other c = search (then_right SecondNone, pick_right SecondNone, place_other
 pub marks_other : (c : List ℕ) (e k q : ℕ) → SecondNone (answer_of (judge_marks e k q c))
 unfolding judge_marks
 marks_other [] e k q = (refl, refl)
-marks_other (x ∷ c) e zero q = search (pick_right SecondNone, marks_other c)
+marks_other (x ∷ c) e zero q =
+    pick_right SecondNone (opens (x ∷ c) && leb e q) _ _ (marks_other c e 7 (suc q))
+    (pick_right SecondNone (ltb x 256) _ _ (marks_other c e 0 (suc q)) (refl, refl))
 marks_other (x ∷ c) e (suc k) q = marks_other c e k (suc q)
 
 -- A count.

@@ -34,7 +34,7 @@ unfolding placed_from written_spans
 spans_end_written gap p n [] = tt
 spans_end_written gap p n (s ∷ ss) =
     let m : ℕ = pick (none ss) (n - length (written_sector s)) (gap_after gap s) in
-    (end_as_written p s m, spans_end_written gap _ _ ss)
+    (end_as_written p s m, spans_end_written gap (p + length (written_sector s ++ replicate m 0xFF)) (n - (length (written_sector s) + gap_after gap s)) ss)
 
 -- The gaps behind placed sectors, as their records have them.
 abbrev pub gaps_of : List Placed → List ℕ
