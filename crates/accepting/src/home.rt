@@ -9,7 +9,7 @@ use format::layout::{HOME, HOME_INFO, PLAIN};
 use sector::Home;
 
 // The home of a track, or the answer that refuses it.
-#[derive(Drop)]
+#[derive(Clone, Copy)]
 pub enum HomeJudged {
     Right(Home),
     Refused(format::Answer),

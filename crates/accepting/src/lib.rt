@@ -205,7 +205,7 @@ fn judge_behind(track: &[u8], marks: &[u8], h: Home) -> format::Answer
 }
 
 // The home of an accepted track, or the answer that refuses the track.
-#[derive(Drop)]
+#[derive(Clone, Copy)]
 pub enum Judged {
     Accepted(Home),
     Refused(format::Answer),

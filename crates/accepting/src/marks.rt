@@ -11,7 +11,7 @@ use format::layout::{LONGEST, MARKED};
 pub const MOST_OPENINGS: usize = LONGEST / MARKED;
 
 // The place of the lowest stray mark, or the number of the marked openings.
-#[derive(Drop)]
+#[derive(Clone, Copy)]
 pub enum MarksJudged {
     Stray(usize),
     Openings(usize),

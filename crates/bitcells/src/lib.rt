@@ -8,7 +8,7 @@ pub use reading::from_cells;
 pub use writing::to_cells;
 
 // The place of the first fault, or that there is none.
-#[derive(Drop)]
+#[derive(Clone, Copy)]
 enum Fault {
     Nowhere,
     At(usize),

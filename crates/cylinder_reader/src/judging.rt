@@ -91,7 +91,7 @@ fn spares_clear(file: &[u8], n: usize) -> bool
 }
 
 // That a file is sound, or the answer that refuses it.
-#[derive(Drop)]
+#[derive(Clone, Copy)]
 pub(crate) enum FileJudged {
     Sound,
     Refused(format::Answer),

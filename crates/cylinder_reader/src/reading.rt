@@ -80,7 +80,7 @@ fn fill_lengths(file: &[u8], n: usize, lengths: &mut [u16])
 }
 
 // The answer of reading, and the number of tracks, 0 where it refuses.
-#[derive(Drop)]
+#[derive(Clone, Copy)]
 pub struct Reading {
     pub answer: format::Answer,
     pub count: usize,

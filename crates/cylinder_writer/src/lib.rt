@@ -168,7 +168,7 @@ fn put_file(tracks: &[u8], marks: &[u8], lengths: &[u16], file: &mut [u8])
 }
 
 // The answer of writing, and the length of the file, 0 where it refuses.
-#[derive(Drop)]
+#[derive(Clone, Copy)]
 pub struct Writing {
     pub answer: format::Answer,
     pub size: usize,

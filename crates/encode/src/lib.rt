@@ -21,7 +21,7 @@ use format::layout::{
 };
 
 // The rules by which the gap after a data block is written.
-#[derive(Drop)]
+#[derive(Clone, Copy)]
 pub enum GapRule {
     One,
     Two { a: u16, b: u16 },

@@ -8,7 +8,7 @@ ghost use Rattle.format.specs.Answer.{as_answer, answer_at, fault_at, done, lent
 pub mod layout;
 
 // What is wrong with a block: the first of its opening, its check and its closing byte.
-#[derive(Drop)]
+#[derive(Clone, Copy)]
 pub enum Fault {
     Opening,
     Check,
@@ -16,7 +16,7 @@ pub enum Fault {
 }
 
 // The number, the second number and the place of an answer.
-#[derive(Drop)]
+#[derive(Clone, Copy)]
 pub struct Answer {
     pub number: u8,
     pub fault: u8,

@@ -11,7 +11,7 @@ ghost use Rattle.listing.specs.Filling.{records_of, as_records, filled, record_a
 use format::layout::HOME_TO_COUNT;
 
 // A sector record: flag, S, KL, DL, the places of the information, the key's 0 where KL = 0, the place after the data block's last byte, and how many bytes of gap follow it.
-#[derive(Drop)]
+#[derive(Clone, Copy)]
 pub struct Sector {
     pub flag: u8,
     pub number: u8,
@@ -24,21 +24,21 @@ pub struct Sector {
 }
 
 // The answer, and the number of records that are filled: 0 where the list or the track is refused.
-#[derive(Drop)]
+#[derive(Clone, Copy)]
 pub struct Listing {
     pub answer: format::Answer,
     pub count: usize,
 }
 
 // A sector record, and the place at which the next count opens.
-#[derive(Drop)]
+#[derive(Clone, Copy)]
 pub struct SectorNext {
     pub sector: Sector,
     pub next: usize,
 }
 
 // What is settled before any record is filled: the listing, and the place of sector 0's count.
-#[derive(Drop)]
+#[derive(Clone, Copy)]
 pub struct Begun {
     pub listing: Listing,
     pub first: usize,

@@ -12,7 +12,7 @@ use format::layout::{COUNT_TAIL, HOME_LAST, HOME_TO_COUNT};
 pub const LAST_FIRST_COUNT: usize = HOME_LAST + HOME_TO_COUNT;
 
 // A count that opens: its place, is it sector 0's, does its span run to index, and how many bytes follow the opening in the span.
-#[derive(Drop)]
+#[derive(Clone, Copy)]
 pub struct Candidate {
     pub place: usize,
     pub first: bool,
@@ -21,7 +21,7 @@ pub struct Candidate {
 }
 
 // A candidate that stands, or that none does.
-#[derive(Drop)]
+#[derive(Clone, Copy)]
 pub enum Standing {
     Stands(Candidate),
     Not,

@@ -17,21 +17,21 @@ use crate::candidate::{Candidate, LAST_FIRST_COUNT, Standing, next_candidate, re
 use format::layout::{MARKED, PLAIN};
 
 // The part of a sector that is asked for.
-#[derive(Drop)]
+#[derive(Clone, Copy)]
 pub enum Wanted {
     TheKey,
     TheData,
 }
 
 // A part of the lent track: its first place and its length.
-#[derive(Drop)]
+#[derive(Clone, Copy)]
 pub struct Part {
     pub start: usize,
     pub size: usize,
 }
 
 // The part that was found, or the answer that refuses it.
-#[derive(Drop)]
+#[derive(Clone, Copy)]
 pub enum Outcome {
     Found(Part),
     Refused(format::Answer),

@@ -18,7 +18,7 @@ use format::layout::{HOME_TO_COUNT, HOME_TO_COUNT_INFO, PLAIN};
 use sector::{Address, Home};
 
 // The outcome, and whether it speaks of the second track.
-#[derive(Drop)]
+#[derive(Clone, Copy)]
 pub struct Paired {
     pub second: bool,
     pub outcome: Outcome,

@@ -11,7 +11,7 @@ use crate::candidate::{LAST_FIRST_COUNT, Standing, next_candidate, rest_of};
 use format::layout::MARKED;
 
 // What a step gives: the place of the candidate's opening, its flag, S, KL and DL.
-#[derive(Drop)]
+#[derive(Clone, Copy)]
 pub struct Visited {
     pub place: usize,
     pub flag: u8,
@@ -21,7 +21,7 @@ pub struct Visited {
 }
 
 // The candidate that a step has come to, or the answer that refuses it.
-#[derive(Drop)]
+#[derive(Clone, Copy)]
 pub enum Visit {
     At(Visited),
     Refused(format::Answer),

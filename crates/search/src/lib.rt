@@ -118,7 +118,7 @@ pub fn opens_marked(track: &[u8], marks: &[u8], p: usize) -> bool
 }
 
 // Home's place, or that home opens nowhere in its window.
-#[derive(Drop)]
+#[derive(Clone, Copy)]
 pub enum Found {
     At(usize),
     Nowhere,
@@ -263,7 +263,7 @@ pub fn unmarked_run(track: &[u8], marks: &[u8], p: usize) -> usize
 }
 
 // The length of a span, and whether it runs to index.
-#[derive(Drop)]
+#[derive(Clone, Copy)]
 pub struct Span {
     pub length: usize,
     pub last: bool,

@@ -4,5 +4,5 @@ pub mod Block
 pub mod Field
 pub mod BlocksJudged
 pub mod BlockEnd
-pub mod Measured
+pub mod MeasuredLemmas
 pub mod Right

@@ -24,7 +24,7 @@ use format::layout::{
 pub const KEY_OFFSET: usize = COUNT_TO_BLOCK;
 
 // What follows a count's opening, measured: KL, DL, and the offsets at which the data block opens and ends.
-#[derive(Drop)]
+#[derive(Clone, Copy)]
 pub struct Measured {
     pub key_length: usize,
     pub data_length: usize,
@@ -33,7 +33,7 @@ pub struct Measured {
 }
 
 // What the test of a block gives: it is sound, or what is at fault.
-#[derive(Drop)]
+#[derive(Clone, Copy)]
 enum Tested {
     Sound,
     Faulty(Fault),

@@ -8,7 +8,7 @@ use crate::fields::{Address, Home, address_in, address_right, count_flag_right, 
 use format::layout::{COUNT_INFO, COUNT_TAIL};
 
 // What the counts of a track name: nothing before sector 0's count, and from there its C and H.
-#[derive(Drop)]
+#[derive(Clone, Copy)]
 pub enum Named {
     Unsettled,
     Settled(Address),

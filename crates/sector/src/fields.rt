@@ -8,14 +8,14 @@ ghost use Rattle.sector.specs.As.{as_address, as_home};
 use crate::bytes::byte_at;
 
 // C and H, the address of a track.
-#[derive(Drop)]
+#[derive(Clone, Copy)]
 pub struct Address {
     pub cylinder: u16,
     pub head: u16,
 }
 
 // Home: its place, its flag and its address.
-#[derive(Drop)]
+#[derive(Clone, Copy)]
 pub struct Home {
     pub place: usize,
     pub flag: u8,

@@ -19,7 +19,7 @@ pub use steps::{Step, step_at};
 const LAST_FIRST_COUNT: usize = HOME_LAST + HOME_TO_COUNT;
 
 // A sector: flag, S, KL, DL, the places of its information, where its data block ends, where the next span starts, whether its own span runs to index, and C and H.
-#[derive(Drop)]
+#[derive(Clone, Copy)]
 pub struct SectorAt {
     pub flag: u8,
     pub number: u8,
@@ -62,7 +62,7 @@ fn sector_in(q: usize, next: usize, last: bool, r: &[u8]) -> SectorAt
 }
 
 // The places from which and up to which bytes are taken.
-#[derive(Drop)]
+#[derive(Clone, Copy)]
 struct Bounds {
     from: usize,
     to: usize,

@@ -8,7 +8,7 @@ ghost use Rattle.sectors.specs.From.{SectorsFrom};
 use crate::{SectorAt, sector_at, step_at};
 
 // The place to which a search came, the place of the sector before it, and how many sectors were passed.
-#[derive(Drop)]
+#[derive(Clone, Copy)]
 pub struct Passage {
     pub place: usize,
     pub before: usize,
@@ -46,7 +46,7 @@ pub fn search_from(track: &[u8], marks: &[u8], start: usize, s: u8) -> Passage
 }
 
 // A sector and the place at which its count opens.
-#[derive(Drop)]
+#[derive(Clone, Copy)]
 pub struct Sought {
     pub place: usize,
     pub sector: SectorAt,

@@ -6,7 +6,7 @@ use crate::opens_first;
 use format::layout::LONGEST;
 
 // S of a sector, where the next span starts, and whether its own span runs to index.
-#[derive(Drop)]
+#[derive(Clone, Copy)]
 pub struct Step {
     pub number: u8,
     pub next: usize,

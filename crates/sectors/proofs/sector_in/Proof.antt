@@ -7,7 +7,7 @@ use lib.Dec.{eqb}
 use Rattle.base.specs.Pick.{pick}
 use Rattle.format.specs.Block.{key_offset}
 use Rattle.format.proofs.Sector.BlockEnd.{offset_lt, end_lt}
-use Rattle.sector.proofs.Measured.{key_length_in, data_length_in, data_offset_in, end_in_lem}
+use Rattle.sector.proofs.MeasuredLemmas.{key_length_in, data_length_in, data_offset_in, end_in_lem}
 use Rattle.sectors.proofs.Rest.{key_place_none, key_place_some, fields_made}
 use borrow.Author.Rules.{rules}
 use Rattle.sectors.proofs.sector_in.Statement.{statement}

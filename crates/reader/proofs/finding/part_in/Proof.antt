@@ -4,7 +4,7 @@ use Prim.Native.Nat.{ℕ, ◌+◌}
 use native.Mathlib.Omega.{arith}
 use Rattle.format.specs.Blocks.{part_at}
 use Rattle.format.proofs.Sector.BlockEnd.{offset_lt}
-use Rattle.sector.proofs.Measured.{key_length_in, data_length_in, data_offset_in}
+use Rattle.sector.proofs.MeasuredLemmas.{key_length_in, data_length_in, data_offset_in}
 use borrow.Author.Rules.{rules}
 use Rattle.reader.proofs.finding.part_in.Statement.{statement}
 use Rattle.reader.proofs.finding.part_in.Tie as tie

@@ -6,7 +6,7 @@ use lib.ListN.{length}
 use lib.Dec.{leb}
 use Rattle.format.specs.Block.{blocks_fit}
 use Rattle.sector.proofs.Block.{gap_le}
-use Rattle.sector.proofs.Measured.{end_in_lem}
+use Rattle.sector.proofs.MeasuredLemmas.{end_in_lem}
 use Rattle.format.proofs.Sector.BlockEnd.{end_lt}
 use borrow.Author.Rules.{rules}
 use Rattle.sector.proofs.blocks.blocks_fit.Statement.{statement}

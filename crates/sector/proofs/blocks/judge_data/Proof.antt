@@ -11,7 +11,7 @@ use Rattle.format.proofs.Sector.BlockEnd.{offset_lt}
 use Rattle.format.proofs.Sector.BlocksJudged.{part_right, part_wrong}
 use Rattle.sector.specs.As.{as_tested}
 use Rattle.sector.proofs.Block.{opening_le}
-use Rattle.sector.proofs.Measured.{data_offset_in}
+use Rattle.sector.proofs.MeasuredLemmas.{data_offset_in}
 use borrow.Author.Rules.{rules}
 use Rattle.sector.proofs.blocks.judge_data.Statement.{statement}
 use Rattle.sector.proofs.blocks.judge_data.Tie as tie

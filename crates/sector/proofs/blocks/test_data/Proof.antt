@@ -1,7 +1,7 @@
 -- `test_data` meets its contract: no room for the block, the block where DL = 0, or a block.
 use mathlib.Core.Path.{sym, ◌∙◌}
 use native.Mathlib.Omega.{arith}
-use Rattle.sector.proofs.Measured.{data_length_in, data_offset_in}
+use Rattle.sector.proofs.MeasuredLemmas.{data_length_in, data_offset_in}
 use Rattle.sector.proofs.Block.{data_none, data_some, data_short}
 use borrow.Author.Rules.{rules}
 use Rattle.sector.proofs.blocks.test_data.Statement.{statement}
