@@ -1,0 +1,14 @@
+-- `opens_plain` meets its contract: the bytes and marks that it compares are the cells of the plain opening.
+use Rattle.format.specs.Lent.{cells}
+use borrow.Author.Rules.{rules}
+use Rattle.search.proofs.opens_plain.Goals as goal
+
+-- UNMAPPED tie.Need-slice-aggregate-starts-with
+-- slice-aggregate-starts-with c = search rules
+
+-- UNMAPPED tie.Need-slice-aggregate-starts-with-2
+-- slice-aggregate-starts-with-2 c = search rules
+
+pub returns : goal.returns
+unfolding cells
+returns c = c.starts_with.ensures

@@ -1,0 +1,30 @@
+-- `zeros_singly` meets its contract: the zeros are those passed and those from place i on.
+use mathlib.Core.Path.{◌≡◌}
+use Prim.Native.Nat.{◌+◌, ◌-◌, ◌≤◌}
+use native.Mathlib.Omega.{arith}
+use native.Mathlib.Numerals.{add-one}
+use lib.ListN.{length, drop}
+use Rattle.search.specs.Zero.{zero_run}
+use Rattle.search.proofs.Zero.{zeros_on, zeros_off, zeros_none}
+use Rattle.search.proofs.zeros_singly.Goals as goal
+
+pub loop-i-init : goal.loop-i-init
+loop-i-init c = (omega arith, omega arith)
+
+pub returns-then-bytes-i-ne0 : goal.returns-then-bytes-i-ne0
+returns-then-bytes-i-ne0 c =
+    let s = c.args.bytes.now in
+    let l = c.loop-i in
+    omega (arith, l.invariant.1, zeros_off s l.i (omega arith) c.if-bytes-i-ne0.true)
+
+pub loop-i-preserved : goal.loop-i-preserved
+loop-i-preserved c =
+    let s = c.args.bytes.now in
+    let l = c.loop-i in
+    (omega arith, rw (add-one l.i) (omega (arith, l.invariant.1, zeros_on s l.i (omega arith) c.if-bytes-i-ne0.false)))
+
+pub returns : goal.returns
+returns c =
+    let s = c.args.bytes.now in
+    let l = c.loop-i in
+    omega (arith, l.invariant.1, zeros_none s l.i (omega arith))
