@@ -1,0 +1,20 @@
+-- `put_block` meets its contract.
+use native.Mathlib.Omega.{arith}
+use mathlib.Core.List.{◌++◌}
+use Rattle.format.specs.Opening.{plain_opening, closing}
+use Rattle.format.specs.Written.{written_block}
+use Rattle.base.proofs.Laid.{laid_next}
+use borrow.Author.Rules.{rules}
+use Rattle.encode.proofs.put_block.Goals as goal
+
+-- UNMAPPED tie.Need-slice-aggregate-put-bytes
+-- slice-aggregate-put-bytes c = search rules
+
+pub returns : goal.returns
+unfolding written_block
+returns c =
+    let a = c.args in
+    let one = c.put_bytes-p in
+    let two = c.put_field in
+    let xs = a.info.now in
+    record { place = omega arith; bytes = laid_next a.at _ plain_opening (xs ++ closing xs) a.t.now _ _ (omega arith) one.ensures.place one.ensures.bytes two.ensures.bytes }
