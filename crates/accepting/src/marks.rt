@@ -3,7 +3,7 @@ ghost use Rattle.std.specs.Prelude.{◌≡◌, ◌≤◌, length};
 ghost use Rattle.format.specs.Layout.{longest_track};
 ghost use Rattle.format.specs.Lent.{cells};
 ghost use Rattle.format.specs.Accept.{judge_marks};
-ghost use Rattle.accepting.specs.Starts.{starts_in, most_openings, judged_marks, listed};
+ghost use Rattle.accepting.specs.Starts.{starts_in, most_openings, judged_marks, IsListed};
 
 use format::layout::{LONGEST, MARKED};
 
@@ -21,7 +21,7 @@ pub enum MarksJudged {
 pub(crate) fn judge_marks(track: &[u8], marks: &[u8], e: usize, starts: &mut [u16]) -> MarksJudged
     requires { (length track.now ≤ longest_track) × (length starts.old ≡ most_openings) }
     ensures result_value { judged_marks result ≡ judge_marks e 0 0 (cells track.now marks.now) }
-    ensures listed { listed result (starts_in 0 (cells track.now marks.now)) starts.new }
+    ensures listed { IsListed result (starts_in 0 (cells track.now marks.now)) starts.new }
 {
     let n = search::cell_count(track, marks);
     let mut q = 0;
