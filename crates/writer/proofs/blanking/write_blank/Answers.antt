@@ -1,0 +1,38 @@
+-- `write_blank` meets its contract: home, and sector 0 with the gap to index behind it.
+use mathlib.Core.Path.{◌≡◌, ◌∙◌}
+use Prim.Native.Nat.{◌+◌, ◌-◌, ◌≤◌}
+use mathlib.Core.Bool.{true}
+use native.Mathlib.Omega.{arith}
+use lib.ListN.{length}
+use Rattle.format.specs.Sector.{Sector}
+use Rattle.format.specs.Written.{written_sector}
+use Rattle.format.specs.Blank.{blank_sector}
+use Rattle.sector.specs.As.{as_address}
+use Rattle.format.specs.Layout.{head_length}
+use Rattle.encode.proofs.Room.{both_fit_lem}
+use Rattle.format.proofs.Sector.ReadBack.{length_written}
+use Rattle.writer.proofs.Filled.{wrote_over}
+use Rattle.writer.proofs.Blanked.{blank_bytes, blank_marks}
+use Rattle.writer.proofs.blanking.write_blank.Goals as goal
+
+pub put_span-requires : goal.put_span-requires
+put_span-requires c =
+    let one = c.write_head in
+    record { key_len_bound = c.requires.key_len_bound; body_bound = omega (arith, c.requires, one.auto); to_in_bounds = (omega arith, omega (arith, c.requires, one.auto)) }
+
+pub returns : goal.returns
+unfolding blank_sector
+returns c =
+    let a = c.args in
+    let one = c.write_head in
+    let two = c.put_span in
+    let S : Sector = blank_sector a.flag (as_address a.named) a.s a.key.now a.body.now in
+    let T1 = one.new.track in
+    let M1 = one.new.marks in
+    let size = length_written S in
+    let wrote : one.result ≡ true = one.ensures.answer ∙ both_fit_lem head_length (length a.track.now) (length a.marks.now) (omega (arith, c.requires)) (omega (arith, c.requires)) in
+    let longT : length T1 ≡ length a.track.now = one.auto.track in
+    let longM : length M1 ≡ length a.track.now = one.auto.marks ∙ c.requires.marks_len in
+    let room : 55 + length (written_sector S) ≤ length a.track.now = omega (arith, c.requires, size) in record { bytes = blank_bytes a.flag (as_address a.own) S (length a.track.now) (length T1) longT room a.track.now T1 two.new.track longT
+          (wrote_over one.result _ _ _ wrote one.ensures.bytes) two.ensures.bytes; marks = blank_marks a.flag (as_address a.own) S (length a.track.now) (length T1) longT room a.marks.now M1 two.new.marks longM
+          (wrote_over one.result _ _ _ wrote one.ensures.marks) two.ensures.marks }

@@ -1,0 +1,181 @@
+-- `write_later` meets its contract: what is written and what is left to write stay the same track.
+use mathlib.Core.Path.{sym, ◌∙◌}
+use Prim.Native.Nat.{◌+◌, ◌-◌}
+use mathlib.Core.Bool.{false}
+use mathlib.Core.List.{List}
+use native.Mathlib.Omega.{arith}
+use lib.ListN.{length, take, drop}
+use Rattle.format.specs.Accept.{Placed}
+use Rattle.sectors.specs.From.{SectorsFrom}
+use Rattle.encode.specs.Gap.{as_rule}
+use Rattle.writer.specs.Remaining.{RoomFor}
+use Rattle.writer.proofs.Later.{Writing, writing_now, cut_asks, going_start, going_within, going_end, going_lengths, going_parts, going_onward, going-room, going_next}
+use Rattle.base.proofs.Lists.{cut_is, cut_length}
+use Rattle.writer.proofs.correcting.write_later.Goals as goal
+
+pub loop-p-init : goal.loop-p-init
+loop-p-init c = let b = c.requires.out_len in (b.0, b.1, λ F G g. g)
+
+pub span_end-to-requires : goal.span_end-to-requires
+span_end-to-requires c =
+    let a = c.args in
+    let rule = as_rule a.rule in
+    let u = c.requires.remaining_room in
+    let o = c.loop-p in
+    let i = writing_now rule a.track.now a.marks.now a.p a.at a.out.now a.out_marks.now o.p o.at o.out o.out_marks u o.invariant in
+    let whole = u.remaining.cells_length in
+    let h = going_within rule a.track.now a.marks.now o.p o.at o.out o.out_marks _ _ i whole in
+    record { kl_bound = going_lengths rule a.track.now a.marks.now o.p o.at o.out o.out_marks _ _ i whole c.loop-p-test.true c.sector_at-x.result c.sector_at-x.ensures; at_bound = (omega (arith, h, u.remaining.length_most), u.right) }
+
+pub overflow_add-k_end : goal.overflow_add-k_end
+overflow_add-k_end c =
+    let a = c.args in
+    let rule = as_rule a.rule in
+    let u = c.requires.remaining_room in
+    let o = c.loop-p in
+    let i = writing_now rule a.track.now a.marks.now a.p a.at a.out.now a.out_marks.now o.p o.at o.out o.out_marks u o.invariant in
+    let whole = u.remaining.cells_length in
+    let h = going_parts rule a.track.now a.marks.now o.p o.at o.out o.out_marks _ _ i whole c.loop-p-test.true c.sector_at-x.result c.sector_at-x.ensures in
+    omega (arith, h, u.remaining.length_most)
+
+pub overflow_add-d_end : goal.overflow_add-d_end
+overflow_add-d_end c =
+    let a = c.args in
+    let rule = as_rule a.rule in
+    let u = c.requires.remaining_room in
+    let o = c.loop-p in
+    let i = writing_now rule a.track.now a.marks.now a.p a.at a.out.now a.out_marks.now o.p o.at o.out o.out_marks u o.invariant in
+    let whole = u.remaining.cells_length in
+    let h = going_parts rule a.track.now a.marks.now o.p o.at o.out o.out_marks _ _ i whole c.loop-p-test.true c.sector_at-x.result c.sector_at-x.ensures in
+    omega (arith, h, u.remaining.length_most)
+
+pub slice_bounds-put_span-count : goal.slice_bounds-put_span-count
+slice_bounds-put_span-count c =
+    let a = c.args in
+    let rule = as_rule a.rule in
+    let u = c.requires.remaining_room in
+    let o = c.loop-p in
+    let i = writing_now rule a.track.now a.marks.now a.p a.at a.out.now a.out_marks.now o.p o.at o.out o.out_marks u o.invariant in
+    let whole = u.remaining.cells_length in
+    let h = going_parts rule a.track.now a.marks.now o.p o.at o.out o.out_marks _ _ i whole c.loop-p-test.true c.sector_at-x.result c.sector_at-x.ensures in
+    omega (arith, h)
+
+pub slice_bounds-put_span-start : goal.slice_bounds-put_span-start
+slice_bounds-put_span-start c =
+    let a = c.args in
+    let rule = as_rule a.rule in
+    let u = c.requires.remaining_room in
+    let o = c.loop-p in
+    let i = writing_now rule a.track.now a.marks.now a.p a.at a.out.now a.out_marks.now o.p o.at o.out o.out_marks u o.invariant in
+    let whole = u.remaining.cells_length in
+    let h = going_parts rule a.track.now a.marks.now o.p o.at o.out o.out_marks _ _ i whole c.loop-p-test.true c.sector_at-x.result c.sector_at-x.ensures in
+    omega (arith, h)
+
+pub slice_bounds-put_span-end : goal.slice_bounds-put_span-end
+slice_bounds-put_span-end c =
+    let a = c.args in
+    let rule = as_rule a.rule in
+    let u = c.requires.remaining_room in
+    let o = c.loop-p in
+    let i = writing_now rule a.track.now a.marks.now a.p a.at a.out.now a.out_marks.now o.p o.at o.out o.out_marks u o.invariant in
+    let whole = u.remaining.cells_length in
+    let h = going_parts rule a.track.now a.marks.now o.p o.at o.out o.out_marks _ _ i whole c.loop-p-test.true c.sector_at-x.result c.sector_at-x.ensures in
+    omega (arith, h)
+
+pub slice_bounds-put_span-count-in-loop-p : goal.slice_bounds-put_span-count-in-loop-p
+slice_bounds-put_span-count-in-loop-p c =
+    let a = c.args in
+    let rule = as_rule a.rule in
+    let u = c.requires.remaining_room in
+    let o = c.loop-p in
+    let i = writing_now rule a.track.now a.marks.now a.p a.at a.out.now a.out_marks.now o.p o.at o.out o.out_marks u o.invariant in
+    let whole = u.remaining.cells_length in
+    let h = going_parts rule a.track.now a.marks.now o.p o.at o.out o.out_marks _ _ i whole c.loop-p-test.true c.sector_at-x.result c.sector_at-x.ensures in
+    omega (arith, h)
+
+pub slice_bounds-put_span-start-in-loop-p : goal.slice_bounds-put_span-start-in-loop-p
+slice_bounds-put_span-start-in-loop-p c =
+    let a = c.args in
+    let rule = as_rule a.rule in
+    let u = c.requires.remaining_room in
+    let o = c.loop-p in
+    let i = writing_now rule a.track.now a.marks.now a.p a.at a.out.now a.out_marks.now o.p o.at o.out o.out_marks u o.invariant in
+    let whole = u.remaining.cells_length in
+    let h = going_parts rule a.track.now a.marks.now o.p o.at o.out o.out_marks _ _ i whole c.loop-p-test.true c.sector_at-x.result c.sector_at-x.ensures in
+    omega (arith, h)
+
+pub slice_bounds-put_span-end-in-loop-p : goal.slice_bounds-put_span-end-in-loop-p
+slice_bounds-put_span-end-in-loop-p c =
+    let a = c.args in
+    let rule = as_rule a.rule in
+    let u = c.requires.remaining_room in
+    let o = c.loop-p in
+    let i = writing_now rule a.track.now a.marks.now a.p a.at a.out.now a.out_marks.now o.p o.at o.out o.out_marks u o.invariant in
+    let whole = u.remaining.cells_length in
+    let h = going_parts rule a.track.now a.marks.now o.p o.at o.out o.out_marks _ _ i whole c.loop-p-test.true c.sector_at-x.result c.sector_at-x.ensures in
+    omega (arith, h)
+
+pub put_span-requires : goal.put_span-requires
+put_span-requires c =
+    let a = c.args in
+    let rule = as_rule a.rule in
+    let u = c.requires.remaining_room in
+    let o = c.loop-p in
+    let i = writing_now rule a.track.now a.marks.now a.p a.at a.out.now a.out_marks.now o.p o.at o.out o.out_marks u o.invariant in
+    let whole = u.remaining.cells_length in
+    let x = c.sector_at-x.result in
+    let h = going_parts rule a.track.now a.marks.now o.p o.at o.out o.out_marks _ _ i whole c.loop-p-test.true c.sector_at-x.result c.sector_at-x.ensures in
+    let n = going_lengths rule a.track.now a.marks.now o.p o.at o.out o.out_marks _ _ i whole c.loop-p-test.true c.sector_at-x.result c.sector_at-x.ensures in
+    let r = going-room rule a.track.now a.marks.now o.p o.at o.out o.out_marks _ _ i whole c.loop-p-test.true c.sector_at-x.result c.sector_at-x.ensures c.span_end-to.result c.span_end-to.ensures in let whole = cut_asks false o.at c.span_end-to.result x.key_length x.data_length (length a.track.now)
+    (take (x.key_place + x.key_length - x.key_place) (drop x.key_place a.track.now))
+    (take (x.data_place + x.data_length - x.data_place) (drop x.data_place a.track.now))
+    o.out o.out_marks
+    (cut_length x.key_place x.key_length a.track.now h.0)
+    (cut_length x.data_place x.data_length a.track.now h.1)
+    n r o.invariant.0 o.invariant.1 in record { key_len_bound = whole.0; body_bound = whole.1.0; to_in_bounds = whole.1.1 }
+
+pub loop-p-smaller : goal.loop-p-smaller
+loop-p-smaller c =
+    let a = c.args in
+    let rule = as_rule a.rule in
+    let u = c.requires.remaining_room in
+    let o = c.loop-p in
+    let i = writing_now rule a.track.now a.marks.now a.p a.at a.out.now a.out_marks.now o.p o.at o.out o.out_marks u o.invariant in
+    let whole = u.remaining.cells_length in
+    let h = going_onward rule a.track.now a.marks.now o.p o.at o.out o.out_marks _ _ i whole c.loop-p-test.true c.sector_at-x.result c.sector_at-x.ensures in
+    omega (arith, h)
+
+pub loop-p-preserved : goal.loop-p-preserved
+loop-p-preserved c =
+    let a = c.args in
+    let rule = as_rule a.rule in
+    let u = c.requires.remaining_room in
+    let o = c.loop-p in
+    let x = c.sector_at-x.result in
+    let w = c.put_span in
+    let t = a.track.now in (
+      w.auto.track ∙ o.invariant.0,
+      w.auto.marks ∙ o.invariant.1,
+      λ F G g.
+          going_next rule t a.marks.now o.p o.at o.out o.out_marks F G (o.invariant.2 F G g) u.remaining.cells_length c.loop-p-test.true x c.sector_at-x.ensures
+          c.span_end-to.result c.span_end-to.ensures _ _ w.new.track w.new.marks
+          (cut_is x.key_place x.key_length t) (cut_is x.data_place x.data_length t) o.invariant.0 o.invariant.1 w.ensures.bytes w.ensures.marks,
+    )
+
+pub shape_of-out : goal.shape_of-out
+shape_of-out c = c.loop-p.invariant.0 ∙ sym c.requires.out_len.0
+
+pub shape_of-out_marks : goal.shape_of-out_marks
+shape_of-out_marks c = c.loop-p.invariant.1 ∙ sym c.requires.out_len.1
+
+pub returns : goal.returns
+returns c =
+    let a = c.args in
+    let rule = as_rule a.rule in
+    let u = c.requires.remaining_room in
+    let o = c.loop-p in
+    let done : (xs : List Placed) (s : SectorsFrom a.track.now a.marks.now a.p xs) (r : RoomFor rule (length a.track.now) a.at xs) → _ =
+    λ xs s r.
+    let i = o.invariant.2 _ _ (going_start rule a.track.now a.marks.now a.p a.at a.out.now a.out_marks.now xs s u.behind r) in
+    going_end rule a.track.now a.marks.now o.p o.at o.out o.out_marks _ _ i u.remaining.cells_length c.loop-p-test.false o.invariant.0 o.invariant.1 in
+    record { bytes = λ xs s r. (done xs s r).0; marks = λ xs s r. (done xs s r).1 }
