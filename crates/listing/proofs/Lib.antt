@@ -2,4 +2,3 @@
 pub mod Stored
 pub mod Listed
 pub mod Beginning
-pub mod Said

@@ -1,4 +1,3 @@
 -- The laws of a reader of Walk.
 pub mod Places
 pub mod Visits
-pub mod Lent

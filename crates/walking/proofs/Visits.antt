@@ -129,3 +129,11 @@ step_visits n t m =
     cases (lent_for_reading t m)
     (λ l. rw l (lent_visits n t m l))
     (λ l. rw l (step_wrong (reached n 0 t m) t m l))
+
+-- The step of a reader that i steps over this pair have left, and the place that it has come to by it.
+pub walked_step : (w : Walk) (i : ℕ) (t m : List ℕ) → w.track.now ≡ t → w.marks.now ≡ m → w.at ≡ reached i 0 t m → w.lent ≡ lent_for_reading t m → step_of w ≡ step (reached i 0 t m) t m
+unfolding judged_step step
+walked_step w i t m a b p l = rw (a, b, p, l)
+
+pub walked_place : (w : Walk) (i : ℕ) (t m : List ℕ) → w.track.now ≡ t → w.marks.now ≡ m → w.at ≡ reached i 0 t m → w.lent ≡ lent_for_reading t m → place_after w.at (step_of w) ≡ reached (i + 1) 0 t m
+walked_place w i t m a b p l = rw (walked_step w i t m a b p l, p) (reached_next i 0 t m)

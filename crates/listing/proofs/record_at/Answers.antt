@@ -1,18 +1,10 @@
 -- `record_at` meets its contract: its fields are those of the sector that is come to, and its gap runs from the end to the next place.
 use mathlib.Core.Path.{◌≡◌, ap, ◌∙◌}
 use Prim.Native.Nat.{ℕ, ◌-◌}
-use borrow.Author.Rules.{rules}
 use Rattle.sectors.specs.SectorAt.{SectorAt, as_sector_at}
 use Rattle.listing.specs.declared.SectorNext.{SectorNext}
 use Rattle.listing.specs.Filling.{as_sector}
-use Rattle.listing.proofs.record_at.Statement.{statement}
-use Rattle.listing.proofs.record_at.Tie as tie
-
-sector-at-requires : tie.Need-sector-at-requires
-sector-at-requires c κs = search rules
-
-bytes-between-requires : tie.Need-bytes-between-requires
-bytes-between-requires c κs = search rules
+use Rattle.listing.proofs.record_at.Goals as goal
 
 -- The record of what is come to, with the gap g.
 abbrev recordWith : ℕ → SectorAt → SectorNext
@@ -34,8 +26,5 @@ recordWith g v =
 same-record : (g : ℕ) (v w : SectorAt) → g ≡ v.next - v.end → v ≡ w → recordWith g v ≡ record { sector = as_sector w; next = w.next }
 same-record g v w e f = ap (λ (k : ℕ). recordWith k v) e ∙ ap {B = SectorNext} (λ (u : SectorAt). record { sector = as_sector u; next = u.next }) f
 
-returns : tie.Need-returns
-returns c = same-record _ (as_sector_at c.before.sector-at.result) _ c.bytes-between.ensures c.before.sector-at.ensures
-
-pub record-at-spec : {M : Type 1} → statement M
-record-at-spec = tie.close (tie.spec sector-at-requires bytes-between-requires returns)
+pub returns : goal.returns
+returns c = same-record _ (as_sector_at c.sector_at-s.result) _ c.bytes_between.ensures c.sector_at-s.ensures
