@@ -3,17 +3,21 @@
 // number too; then `ended`.
 #![tactic(auto)]
 
-use libc::{STDIN_FILENO, STDOUT_FILENO};
+ghost use Rattle.std.specs.Prelude.{◌≤◌, length, IfOk};
+
 use reader::{Outcome, Wanted};
+use std::io;
+use std::io::Read;
 
 // Writes bytes in hexadecimal, or `-` where there are none.
-fn write_bytes(bytes: &[u8]) {
-    if bytes.len() == 0 {
-        io::write_all(STDOUT_FILENO, b"-");
+fn write_bytes(rt: &impl Print, bytes: &[u8]) -> io::Result<()> {
+    if bytes.is_empty() {
+        print!(rt; "-")?;
     }
-    for i in 0..bytes.len() {
-        io::print_hex(STDOUT_FILENO, bytes[i] as u64, 2);
+    for byte in bytes {
+        print!(rt; "{byte:02x}")?;
     }
+    Ok(())
 }
 
 // The answer to a part asked for.
@@ -25,65 +29,87 @@ fn answer_of(outcome: Outcome) -> format::Answer {
 }
 
 // Writes the number of an answer and, where it has one, a dot and its second number.
-fn write_number(a: format::Answer) {
-    io::print_decimal(STDOUT_FILENO, a.number as u64);
+fn write_number(rt: &impl Print, a: format::Answer) -> io::Result<()> {
+    print!(rt; "{}", a.number)?;
     if a.fault != 0 {
-        io::write_all(STDOUT_FILENO, b".");
-        io::print_decimal(STDOUT_FILENO, a.fault as u64);
+        print!(rt; ".{}", a.fault)?;
     }
+    Ok(())
 }
 
 // Writes a part of sector S with what follows it on the line, or the answer that refuses it.
-fn write_part(track: &[u8], marks: &[u8], s: u8, wanted: Wanted, end: &[u8]) {
+fn write_part(
+    rt: &impl Print,
+    track: &[u8],
+    marks: &[u8],
+    s: u8,
+    wanted: Wanted,
+    end: &[u8],
+) -> io::Result<()> {
     let a = answer_of(reader::find_part(track, marks, s, wanted));
     if a.number == 0 {
-        write_bytes(reader::find(track, marks, s, wanted));
+        write_bytes(rt, reader::find(track, marks, s, wanted))?;
     } else {
-        io::write_all(STDOUT_FILENO, b"!");
-        write_number(a);
+        print!(rt; "!")?;
+        write_number(rt, a)?;
     }
-    io::write_all(STDOUT_FILENO, end);
+    rt.write_all(end)
 }
 
 // Writes the record of sector S, unless no candidate carries S.
-fn write_record(track: &[u8], marks: &[u8], number: usize) {
+fn write_record(rt: &impl Print, track: &[u8], marks: &[u8], number: usize) -> io::Result<()> {
     let s = (number % 256) as u8;
     let a = answer_of(reader::find_part(track, marks, s, Wanted::TheKey));
     if a.number == 12 {
-        return;
+        return Ok(());
     }
-    io::print_decimal(STDOUT_FILENO, s as u64);
-    io::write_all(STDOUT_FILENO, b" ");
-    write_part(track, marks, s, Wanted::TheKey, b" ");
-    write_part(track, marks, s, Wanted::TheData, b"\n");
+    print!(rt; "{s} ")?;
+    write_part(rt, track, marks, s, Wanted::TheKey, b" ")?;
+    write_part(rt, track, marks, s, Wanted::TheData, b"\n")
 }
 
 // Writes the records of all S.
-fn write_records(track: &[u8], marks: &[u8]) {
+fn write_records(rt: &impl Print, track: &[u8], marks: &[u8]) -> io::Result<()> {
     for s in 0..256 {
-        write_record(track, marks, s);
+        write_record(rt, track, marks, s)?;
     }
+    Ok(())
 }
 
 // Writes the records and that this is their end, or that the input is refused.
-fn dump(track: &[u8], marks: &[u8]) {
+fn dump(rt: &impl Print, track: &[u8], marks: &[u8]) -> io::Result<()> {
     if search::lent_for_reading(track, marks) {
-        write_records(track, marks);
-        io::write_all(STDOUT_FILENO, b"ended\n");
+        write_records(rt, track, marks)?;
+        println!(rt; "ended")
     } else {
-        io::write_all(STDOUT_FILENO, b"refused 1\n");
+        println!(rt; "refused 1")
     }
 }
 
 // The two halves of the input are the track and its marks.
-fn dump_halves(all: &[u8]) {
+fn dump_halves(rt: &impl Print, all: &[u8]) -> io::Result<()> {
     let half = all.len() / 2;
-    dump(&all[0..half], &all[half..]);
+    dump(rt, &all[0..half], &all[half..])
+}
+
+// Reads until the buffer is full or the input ends, and returns how many bytes it put at the buffer's start.
+fn read_full(input: &mut impl Read, buffer: &mut [u8]) -> io::Result<usize>
+    ensures { IfOk result (λ n. n ≤ length buffer.new) }
+{
+    let mut done = 0;
+    while done < buffer.len() {
+        let n = input.read(&mut buffer[done..])?;
+        if n == 0 {
+            break;
+        }
+        done += n;
+    }
+    Ok(done)
 }
 
 // The longest track and its marks have 8,004 bytes; one more is read, so that longer input is noticed by halves of different length.
-fn main() {
+fn main(rt: HostRuntime) -> io::Result<()> {
     let mut input = [0u8; 8005];
-    let n = io::read_full(STDIN_FILENO, &mut input);
-    dump_halves(&input[..n]);
+    let n = read_full(&mut rt.stdin(), &mut input)?;
+    dump_halves(&rt, &input[..n])
 }

@@ -3,79 +3,120 @@
 // and then the part itself.
 #![tactic(auto)]
 
-ghost use Rattle.std.specs.Prelude.{◌≤◌};
+ghost use Rattle.std.specs.Prelude.{◌≤◌, length, IfOk};
 
-use libc::{STDERR_FILENO, STDOUT_FILENO};
 use reader::{Outcome, Wanted};
+use std::io::Read;
+use std::rt::{Env, Files};
+use std::{fs, io, str};
 
 // Writes a number and a space.
-fn write_field(n: u64) {
-    io::print_decimal(STDOUT_FILENO, n);
-    io::write_all(STDOUT_FILENO, b" ");
+fn write_field(rt: &impl Print, n: u64) -> io::Result<()> {
+    print!(rt; "{n} ")
 }
 
 // Writes the number of an answer and, where it has one, a dot and its second number; and its place.
-fn write_numbers(a: format::Answer) {
-    io::print_decimal(STDOUT_FILENO, a.number as u64);
+fn write_numbers(rt: &impl Print, a: format::Answer) -> io::Result<()> {
+    print!(rt; "{}", a.number)?;
     if a.fault != 0 {
-        io::write_all(STDOUT_FILENO, b".");
-        io::print_decimal(STDOUT_FILENO, a.fault as u64);
+        print!(rt; ".{}", a.fault)?;
     }
-    io::write_all(STDOUT_FILENO, b" ");
-    write_field(a.place as u64);
+    print!(rt; " ")?;
+    write_field(rt, a.place as u64)
 }
 
 // Writes which track an answer speaks of, its number and its place.
-fn write_answer(found: reader::Paired) {
+fn write_answer(rt: &impl Print, found: reader::Paired) -> io::Result<()> {
     if found.second {
-        write_field(2);
+        write_field(rt, 2)?;
     } else {
-        write_field(1);
+        write_field(rt, 1)?;
     }
     let outcome = found.outcome;
     match outcome {
-        Outcome::Found(_) => write_numbers(format::done()),
-        Outcome::Refused(a) => write_numbers(a),
+        Outcome::Found(_) => write_numbers(rt, format::done()),
+        Outcome::Refused(a) => write_numbers(rt, a),
     }
 }
 
 // Writes a part: its length, and on a line of its own its bytes as they are.
-fn write_bytes(bytes: &[u8]) {
-    io::print_decimal(STDOUT_FILENO, bytes.len() as u64);
-    io::write_all(STDOUT_FILENO, b"\n");
-    io::write_all(STDOUT_FILENO, bytes);
-    io::write_all(STDOUT_FILENO, b"\n");
+fn write_bytes(rt: &impl Print, bytes: &[u8]) -> io::Result<()> {
+    println!(rt; "{}", bytes.len())?;
+    rt.write_all(bytes)?;
+    println!(rt)
 }
 
 // Writes the answer to the part asked for, and the part.
-fn write_part<'a>(first: &'a [u8], second: &'a [u8], s: u8, wanted: Wanted) {
+fn write_part<'a>(
+    rt: &impl Print,
+    first: &'a [u8],
+    second: &'a [u8],
+    s: u8,
+    wanted: Wanted,
+) -> io::Result<()> {
     let half = first.len() / 2;
     let other = second.len() / 2;
     let track = &first[0..half];
     let marks = &first[half..];
     let alternative = &second[0..other];
     let other_marks = &second[other..];
-    write_answer(reader::pair_find_part(track, marks, alternative, other_marks, s, wanted));
-    write_bytes(reader::pair_find(track, marks, alternative, other_marks, s, wanted));
+    write_answer(
+        rt,
+        reader::pair_find_part(track, marks, alternative, other_marks, s, wanted),
+    )?;
+    write_bytes(
+        rt,
+        reader::pair_find(track, marks, alternative, other_marks, s, wanted),
+    )
 }
 
 // Writes the lines of the record S of both files' bytes.
-fn write_record<'a>(first: &'a [u8], second: &'a [u8], s: u8) {
-    io::write_all(STDOUT_FILENO, b"key ");
-    write_part(first, second, s, Wanted::TheKey);
-    io::write_all(STDOUT_FILENO, b"data ");
-    write_part(first, second, s, Wanted::TheData);
+fn write_record<'a>(rt: &impl Print, first: &'a [u8], second: &'a [u8], s: u8) -> io::Result<()> {
+    print!(rt; "key ")?;
+    write_part(rt, first, second, s, Wanted::TheKey)?;
+    print!(rt; "data ")?;
+    write_part(rt, first, second, s, Wanted::TheData)
 }
 
-// Opens the file that argument i names; below 0 where that fails, which is said on standard error.
-fn open_argument(i: usize) -> i32 {
-    let mut path = io::buffer();
-    let n = os::arg(i, &mut path);
-    let fd = os::open_read(&path[..n]);
-    if fd < 0 {
-        os::fail(&path[..n]);
+// Puts argument i at the buffer's start and returns its length; 0 where it is missing or longer than the buffer.
+fn argument(rt: &impl Env, i: usize, buffer: &mut [u8]) -> usize
+    ensures { result ≤ length buffer.new }
+{
+    match rt.arg(i, buffer) {
+        Ok(n) => n,
+        Err(_) => 0,
     }
-    fd
+}
+
+// The text of an error without the system's number of it.
+fn words_of(text: &str) -> &str {
+    match text.split_once(" (os error ") {
+        Some((words, _)) => words,
+        None => text,
+    }
+}
+
+// Writes to standard error what failed, a colon and the error in the system's words.
+fn fail<R: Alloc + Eprint>(rt: &R, what: &str, error: &io::Error) -> io::Result<()> {
+    let text = format!(in rt.alloc(); "{error}")?;
+    eprintln!(rt; "{what}: {}", words_of(text.as_str()))
+}
+
+// Opens the file that argument i names; none where that fails, which is said on standard error.
+fn open_argument<R: Alloc + Env + Eprint + Files>(rt: &R, i: usize) -> io::Result<Option<R::File>> {
+    let mut name = [0u8; 4096];
+    let n = argument(rt, i, &mut name);
+    let Ok(path) = str::from_utf8(&name[..n]) else {
+        eprintln!(rt; "argument {i}: not UTF-8")?;
+        return Ok(None);
+    };
+    match fs::open(rt, path) {
+        Ok(file) => Ok(Some(file)),
+        Err(error) => {
+            fail(rt, path, &error)?;
+            Ok(None)
+        }
+    }
 }
 
 // The value of a digit; 1,000 for any other byte.
@@ -106,38 +147,52 @@ fn number_in(digits: &[u8]) -> u32 {
 }
 
 // The number that argument i tells.
-fn number_argument(i: usize) -> u32 {
+fn number_argument(rt: &impl Env, i: usize) -> u32 {
     let mut digits = [0u8; 4];
-    let n = os::arg(i, &mut digits);
+    let n = argument(rt, i, &mut digits);
     number_in(&digits[..n])
 }
 
+// Reads until the buffer is full or the input ends, and returns how many bytes it put at the buffer's start.
+fn read_full(input: &mut impl Read, buffer: &mut [u8]) -> io::Result<usize>
+    ensures { IfOk result (λ n. n ≤ length buffer.new) }
+{
+    let mut done = 0;
+    while done < buffer.len() {
+        let n = input.read(&mut buffer[done..])?;
+        if n == 0 {
+            break;
+        }
+        done += n;
+    }
+    Ok(done)
+}
+
 // Reads both files and writes the record; one byte more than the longest track and its marks is read, so that a longer file is noticed by halves of different length.
-fn find_in_files(one: i32, two: i32, s: u8) {
+fn find_in_files(
+    rt: &impl Print,
+    one: &mut impl Read,
+    two: &mut impl Read,
+    s: u8,
+) -> io::Result<()> {
     let mut first = [0u8; 8005];
-    let n = io::read_full(one, &mut first);
+    let n = read_full(one, &mut first)?;
     let mut second = [0u8; 8005];
-    let k = io::read_full(two, &mut second);
-    write_record(&first[..n], &second[..k], s);
+    let k = read_full(two, &mut second)?;
+    write_record(rt, &first[..n], &second[..k], s)
 }
 
 // Finds the record that the arguments name, or says how to call the program.
-fn main() {
-    let s = number_argument(3);
+fn main(rt: HostRuntime) -> io::Result<()> {
+    let s = number_argument(&rt, 3);
     if 255 < s {
-        io::write_all(
-            STDERR_FILENO,
-            b"usage: trackpair FIRST SECOND S, S from 0 to 255\n",
-        );
-        return;
+        return eprintln!(rt; "usage: trackpair FIRST SECOND S, S from 0 to 255");
     }
-    let one = open_argument(1);
-    if one < 0 {
-        return;
-    }
-    let two = open_argument(2);
-    if two < 0 {
-        return;
-    }
-    find_in_files(one, two, s as u8);
+    let Some(mut one) = open_argument(&rt, 1)? else {
+        return Ok(());
+    };
+    let Some(mut two) = open_argument(&rt, 2)? else {
+        return Ok(());
+    };
+    find_in_files(&rt, &mut one, &mut two, s as u8)
 }
