@@ -10,8 +10,7 @@ ghost use Rattle.station.specs.Packed.{packed_reading, packed_writing};
 use crate::packed_number;
 
 // Reads the file of a cylinder: writes the tracks, their marks and their Ls; a refusal writes nothing.
-#[unsafe(no_mangle)]
-pub extern "C" fn iso3561_cylinder_read(
+pub fn iso3561_cylinder_read(
     file: &[u8],
     tracks: &mut [u8],
     marks: &mut [u8],
@@ -27,13 +26,7 @@ pub extern "C" fn iso3561_cylinder_read(
 }
 
 // Writes the file of a cylinder; a refusal writes nothing.
-#[unsafe(no_mangle)]
-pub extern "C" fn iso3561_cylinder_write(
-    tracks: &[u8],
-    marks: &[u8],
-    lengths: &[u16],
-    file: &mut [u8],
-) -> u64
+pub fn iso3561_cylinder_write(tracks: &[u8], marks: &[u8], lengths: &[u16], file: &mut [u8]) -> u64
     ensures result { result ≡ packed_writing (write_cylinder (lent tracks.now marks.now lengths.now) (length file.old)) }
     ensures bytes { file.new ≡ laid_over (file_bytes (write_cylinder (lent tracks.now marks.now lengths.now) (length file.old))) file.old }
 {

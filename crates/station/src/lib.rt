@@ -1,4 +1,4 @@
-// The C interface: plain numbers and byte slices in, one number of 64 bits out.
+// The calls of the C interface: plain numbers and byte slices in, one number of 64 bits out. `station_c` exports them.
 #![tactic(auto)]
 
 ghost use Rattle.std.specs.Prelude.{◌≡◌, ◌≤◌};

@@ -11,16 +11,14 @@ ghost use Rattle.station.specs.Packed.{packed_answer, packed_listing, packed_par
 use crate::{packed_answer, packed_listing, packed_paired, packed_part, packed_visit};
 
 // Accept: the answer for the whole track.
-#[unsafe(no_mangle)]
-pub extern "C" fn iso3561_accept(track: &[u8], marks: &[u8]) -> u64
+pub fn iso3561_accept(track: &[u8], marks: &[u8]) -> u64
     ensures { result ≡ packed_answer (answer_of (accept track.now marks.now)) }
 {
     packed_answer(accepting::accept(track, marks))
 }
 
 // List: fills the first rows with the sectors of an accepted track, and gives their number; every other row stays, and a refusal writes nothing.
-#[unsafe(no_mangle)]
-pub extern "C" fn iso3561_list(track: &[u8], marks: &[u8], rows: &mut [[u16; 8]]) -> u64
+pub fn iso3561_list(track: &[u8], marks: &[u8], rows: &mut [[u16; 8]]) -> u64
     ensures result { result ≡ packed_listing (list (length rows.old) track.now marks.now) }
     ensures rows { rows.new ≡ filled_rows (list (length rows.old) track.now marks.now) rows.old }
 {
@@ -28,8 +26,7 @@ pub extern "C" fn iso3561_list(track: &[u8], marks: &[u8], rows: &mut [[u16; 8]]
 }
 
 // Find: where the part of sector S lies, 0 the key and 1 the data; 14 for any other part, before all else.
-#[unsafe(no_mangle)]
-pub extern "C" fn iso3561_find(track: &[u8], marks: &[u8], sector: u8, part: u8) -> u64
+pub fn iso3561_find(track: &[u8], marks: &[u8], sector: u8, part: u8) -> u64
     ensures { result ≡ packed_part (then (wanted_by part) (λ w. find sector w track.now marks.now)) }
 {
     if part == 0 {
@@ -42,8 +39,7 @@ pub extern "C" fn iso3561_find(track: &[u8], marks: &[u8], sector: u8, part: u8)
 }
 
 // Pair find: the same of two tracks, by the flag of the first.
-#[unsafe(no_mangle)]
-pub extern "C" fn iso3561_pair_find(
+pub fn iso3561_pair_find(
     track: &[u8],
     marks: &[u8],
     second: &[u8],
@@ -67,8 +63,7 @@ pub extern "C" fn iso3561_pair_find(
 }
 
 // Walk: the first candidate whose opening stands at place `from` or later.
-#[unsafe(no_mangle)]
-pub extern "C" fn iso3561_walk(track: &[u8], marks: &[u8], from: u64) -> u64
+pub fn iso3561_walk(track: &[u8], marks: &[u8], from: u64) -> u64
     ensures { result ≡ packed_visit (step from track.now marks.now) }
 {
     packed_visit(reader::step_at(track, marks, from as usize))

@@ -12,8 +12,7 @@ ghost use Rattle.station.specs.Numbered.{numbered_rule};
 use crate::packed_answer;
 
 // Blank: writes home and sector 0 in the lent pair; a refusal writes nothing.
-#[unsafe(no_mangle)]
-pub extern "C" fn iso3561_blank(
+pub fn iso3561_blank(
     track: &mut [u8],
     marks: &mut [u8],
     cylinder: u16,
@@ -55,8 +54,7 @@ fn numbered_rule(rule: u16, a: u16, b: u16) -> encode::GapRule
 }
 
 // Add: copies the track into the new pair with one more sector after the last; a refusal writes nothing.
-#[unsafe(no_mangle)]
-pub extern "C" fn iso3561_add(
+pub fn iso3561_add(
     track: &[u8],
     marks: &[u8],
     new_track: &mut [u8],
@@ -77,8 +75,7 @@ pub extern "C" fn iso3561_add(
 }
 
 // Correct: copies the track into the new pair with a new key and data for one sector; a refusal writes nothing.
-#[unsafe(no_mangle)]
-pub extern "C" fn iso3561_correct(
+pub fn iso3561_correct(
     track: &[u8],
     marks: &[u8],
     new_track: &mut [u8],
