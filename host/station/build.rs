@@ -10,7 +10,7 @@ fn main() {
     println!("cargo:rerun-if-changed={}", archive.display());
     assert!(
         archive.is_file(),
-        "{} is missing: run `rt staticlib station` first",
+        "{} is missing: run `make lib` first",
         archive.display()
     );
     println!("cargo:rustc-link-search=native={}", folder.display());

@@ -29,7 +29,7 @@ fn built(variable: &str, own_folder: &str, command: &str, name: &str) -> PathBuf
 
 /// A program of the proved code.
 fn program(name: &str) -> PathBuf {
-    built("ISO3561_BIN", "target/bin", "rt check", name)
+    built("ISO3561_BIN", "target/bin", "make programs", name)
 }
 
 /// A C program.

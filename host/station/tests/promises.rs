@@ -38,7 +38,7 @@ fn files_below(folder: &Path, found: &mut Vec<PathBuf>) {
         let path = entry.expect("an entry").path();
         if !path.is_dir() {
             found.push(path);
-        } else if !path.ends_with("target") {
+        } else if !["target", "out"].iter().any(|built| path.ends_with(built)) {
             files_below(&path, found);
         }
     }
