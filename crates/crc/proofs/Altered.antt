@@ -20,7 +20,7 @@ use Rattle.crc.proofs.Coefficients.{coefficients_length}
 use Rattle.crc.proofs.Check.{check_lt}
 use Rattle.crc.proofs.Agreement.{stored_agrees}
 use Rattle.crc.proofs.Linear.{sums}
-use Rattle.crc.proofs.Burst.{burst_caught}
+use Rattle.crc.proofs.Burst.{burst_caught, burst_at}
 use Rattle.crc.proofs.TwoApart.{two_apart_agree, two_apart_burst}
 
 -- The bits with the one at place i altered.
@@ -113,16 +113,12 @@ alter_two i xs h =
     }
 
 -- Bits with the one at place i altered differ there and nowhere else, which is a burst.
-alter_one : (i : ℕ) (xs : List ℕ) → i < length xs → Burst 16 xs (alter_at i xs)
-alter_one i xs h =
+alter_one : (k i : ℕ) (xs : List ℕ) → 0 < k → i < length xs → Burst k xs (alter_at i xs)
+alter_one k i xs l h =
     let x : ℕ = bit_xor (get_or xs i 0) 1 in
-    record {
-      same_length = sym (length-set xs i x);
-      start = i;
-      within = λ k d. cases (eqb k i) (λ e. let same = eqb-true k i e in (omega arith, omega arith)) (λ e. absurd (d (sym (get_or-set_other xs i k x 0 (eqb-false k i e)))));
-      place = i;
-      differs = λ e. bit_altered (get_or xs i 0) (e ∙ get_or-set_same xs i x 0 h);
-    }
+    burst_at k i i xs (alter_at i xs) (sym (length-set xs i x))
+    (λ j d. cases (eqb j i) (λ e. let same = eqb-true j i e in (omega arith, omega arith)) (λ e. absurd (d (sym (get_or-set_other xs i j x 0 (eqb-false j i e))))))
+    (λ e. bit_altered (get_or xs i 0) (e ∙ get_or-set_same xs i x 0 h))
 
 -- A list is what stands before its last two elements, and these.
 last_two : (n : ℕ) (f : List ℕ) → length f ≡ n + 2 → take n f ++ get_or f n 0 ∷ get_or f (suc n) 0 ∷ [] ≡ f
@@ -145,9 +141,14 @@ one_bit_caught bs i h =
     let low : ℕ = get_or after (suc n) 0 in
     let long : length before ≡ n + 2 = length-append bs (check_bytes bs) in
     let whole : cs ++ high ∷ low ∷ [] ≡ after = last_two n after (altered_length i before ∙ long) in
-    let bits : checked_bits cs high low ≡ alter_at i (coefficients before) = ap coefficients whole ∙ coefficients_altered i before in
-    let burst : Burst 16 (checked_bits bs (c / 256) (c % 256)) (checked_bits cs high low) = rw bits (alter_one i (coefficients before) (omega (arith, long, coefficients_length before))) in
-    (cs, high, low, whole, burst_caught bs cs (c / 256) (c % 256) high low (stored_agrees bs (c / 256) (c % 256) refl) burst)
+    let bits : checked_bits cs high low ≡ alter_at i (coefficients before) = ap coefficients whole ∙ coefficients_altered i before in (
+      cs,
+      high,
+      low,
+      whole,
+      burst_caught bs cs (c / 256) (c % 256) high low (stored_agrees bs (c / 256) (c % 256) refl)
+          (rw bits (alter_one _ i (coefficients before) (omega arith) (omega (arith, long, coefficients_length before)))),
+    )
 
 -- Information bytes of any length with their check: whatever place i, bit i and bit i + 16 altered, the check agrees all the same.
 pub two_bits_pass : (bs : List ℕ) (i : ℕ) → i + 16 < 8 * (length bs + 2)

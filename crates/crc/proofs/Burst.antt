@@ -12,7 +12,7 @@ use lib.Pow.{pow_mono}
 use Rattle.base.proofs.Tests.{cases}
 use Rattle.crc.specs.Check.{coefficients, bring_down, remainder, agrees}
 use Rattle.crc.specs.Division.{Digits}
-use Rattle.crc.specs.Burst.{checked_bits, Burst}
+use Rattle.crc.specs.Burst.{checked_bits, DiffersAt, Burst}
 use Rattle.crc.proofs.Coefficients.{coefficients_digits, coefficients_length}
 use Rattle.crc.proofs.Turn.{shifted}
 use Rattle.crc.proofs.Remainder.{bring_is, bring_lt}
@@ -52,40 +52,46 @@ window_kept (suc m) j r (c ∷ ds) l h d z s e =
     window_kept m (suc j) (bring_down r c) ds (omega arith) (omega (arith, pow-suc 2 j, d.0)) d.1 (λ i k. z (suc i) (omega arith))
     (λ q. one_behind c ds (omega arith) (s (omega arith))) e
 
--- Coefficients with a 1, all of whose ones stand among the sixteen places from s on, have a remainder that is not 0.
-burst_remains : (s : ℕ) (ds : List ℕ) → Digits ds → ((i : ℕ) → i < s → get_or ds i 0 ≡ 0) → ((i : ℕ) → s + 16 ≤ i → get_or ds i 0 ≡ 0) → HasOne ds → remainder 0 ds ≡ 0 → ⊥
+-- Coefficients with a 1, all of whose ones stand among the k places from s on, of which there are at most sixteen, have a remainder that is not 0.
+burst_remains : (k s : ℕ) (ds : List ℕ) → k ≤ 16 → Digits ds → ((i : ℕ) → i < s → get_or ds i 0 ≡ 0) → ((i : ℕ) → s + k ≤ i → get_or ds i 0 ≡ 0) → HasOne ds
+    → remainder 0 ds ≡ 0 → ⊥
 unfolding remainder Digits
-burst_remains zero ds d a b o e = window_kept 16 0 0 ds (omega arith) (lit< tt) d b (λ _. o) e
-burst_remains (suc s) [] d a b o e = o.one refl
-burst_remains (suc s) (c ∷ ds) d a b o e =
+burst_remains k zero ds l d a b o e = window_kept k 0 0 ds (omega arith) (lit< tt) d (λ i h. b i (omega arith)) (λ _. o) e
+burst_remains k (suc s) [] l d a b o e = o.one refl
+burst_remains k (suc s) (c ∷ ds) l d a b o e =
     let z : c ≡ 0 = a 0 (omega arith) in
     let t : bring_down 0 c ≡ 0 = omega (arith, shifted 0 c (lit< tt) d.0) in
-    burst_remains s ds d.1 (λ i l. a (suc i) (omega arith)) (λ i l. b (suc i) (omega arith)) (one_behind c ds z o) (rw t at e)
+    burst_remains k s ds l d.1 (λ i h. a (suc i) (omega arith)) (λ i h. b (suc i) (omega arith)) (one_behind c ds z o) (rw t at e)
 
 -- A number that cannot differ from 0 is 0.
 pub zero_unless : (n : ℕ) → ((n ≡ 0 → ⊥) → ⊥) → n ≡ 0
 zero_unless zero h = refl
 zero_unless (suc n) h = absurd (h (λ q. omega arith))
 
--- The bits xs and ys, made out of each other by a burst of sixteen bits, have different remainders.
-remainders_differ : (xs ys : List ℕ) → Digits xs → Digits ys → Burst 16 xs ys → remainder 0 xs ≡ remainder 0 ys → ⊥
-remainders_differ xs ys dx dy b e =
+-- The bits xs and ys, made out of each other by a burst of at most sixteen bits that alters one, have different remainders.
+remainders_differ : (k : ℕ) (xs ys : List ℕ) → k ≤ 16 → Digits xs → Digits ys → (b : Burst k xs ys) → DiffersAt xs ys b.place → remainder 0 xs ≡ remainder 0 ys → ⊥
+remainders_differ k xs ys l dx dy b o e =
     let ds : List ℕ = sums xs ys in
     let n = b.same_length in
-    burst_remains b.start ds (sums_digits xs ys dx dy)
-    (λ i l. zero_unless (get_or ds i 0) (λ o. omega (arith, (b.within i (sum_differs xs ys n i o)).0)))
-    (λ i l. zero_unless (get_or ds i 0) (λ o. omega (arith, (b.within i (sum_differs xs ys n i o)).1)))
-    (record { place = b.place; one = differs_sum xs ys n b.place b.differs })
+    burst_remains k b.start ds l (sums_digits xs ys dx dy)
+    (λ i h. zero_unless (get_or ds i 0) (λ q. omega (arith, (b.within i (sum_differs xs ys n i q)).0)))
+    (λ i h. zero_unless (get_or ds i 0) (λ q. omega (arith, (b.within i (sum_differs xs ys n i q)).1)))
+    (record { place = b.place; one = differs_sum xs ys n b.place o })
     (remainder_sum xs ys 0 0 n dx dy (lit< tt) (lit< tt) ∙ ap (bit_xor (remainder 0 xs)) (sym e) ∙ xor_self (remainder 0 xs))
 
 -- Information of any length that agrees with its check: after a burst of sixteen bits, anywhere in information and check, it does not.
 pub burst_caught : (bs cs : List ℕ) (high low high' low' : ℕ) → agrees bs high low ≡ true → Burst 16 (checked_bits bs high low) (checked_bits cs high' low') → agrees cs high' low' ≡ false
 burst_caught bs cs high low high' low' e b =
     cases (agrees cs high' low')
-    (λ a. absurd (remainders_differ (checked_bits bs high low) (checked_bits cs high' low') (coefficients_digits (bs ++ high ∷ low ∷ [])) (coefficients_digits (cs ++ high' ∷ low' ∷ [])) b
+    (λ a. absurd (remainders_differ 16 (checked_bits bs high low) (checked_bits cs high' low') (omega arith)
+    (coefficients_digits (bs ++ high ∷ low ∷ [])) (coefficients_digits (cs ++ high' ∷ low' ∷ [])) b b.differs
     (agrees_ones bs high low e ∙ sym (agrees_ones cs high' low' a))))
     (λ a. a)
 
 -- Bytes of which a burst makes others are as many.
 pub burst_length : (k : ℕ) (xs ys : List ℕ) → Burst k (coefficients xs) (coefficients ys) → length ys ≡ length xs
 burst_length k xs ys b = omega (arith, b.same_length, coefficients_length xs, coefficients_length ys)
+
+-- Bits that differ at place i, and nowhere but at the k places from s on, are made out of each other by a burst.
+pub burst_at : (k s i : ℕ) (xs ys : List ℕ) → length xs ≡ length ys → ((j : ℕ) → DiffersAt xs ys j → (s ≤ j) × (j < s + k)) → DiffersAt xs ys i → Burst k xs ys
+burst_at k s i xs ys n w d = record { same_length = n; start = s; within = w; place = i; differs = d }

@@ -17,7 +17,7 @@ use Rattle.crc.proofs.Coefficients.{coefficients_digits}
 use Rattle.crc.proofs.Turn.{bring_turn, shifted}
 use Rattle.crc.proofs.Linear.{sums, sums_digits, sum_differs, differs_sum, remainder_sum}
 use Rattle.crc.proofs.Checked.{agrees_ones, ones_agree}
-use Rattle.crc.proofs.Burst.{zero_unless}
+use Rattle.crc.proofs.Burst.{zero_unless, burst_at}
 
 -- The remainder of zeros is 0.
 zeros_nothing : (ds : List ℕ) → Digits ds → ((i : ℕ) → get_or ds i 0 ≡ 0) → remainder 0 ds ≡ 0
@@ -40,30 +40,31 @@ second_cancels (suc n) j (c ∷ ds) l d o z =
     let t : bring_down (2 ^ j) c ≡ 2 ^ suc j = omega (arith, shifted (2 ^ j) c small d.0, z 0 (λ q. omega arith), pow-suc 2 j) in
     rw t (second_cancels n (suc j) ds (omega arith) d.1 o (λ i q. z (suc i) (λ e. q (omega arith))))
 
--- The remainder of two ones sixteen apart, and zeros besides, is 0.
-two_cancel : (i : ℕ) (ds : List ℕ) → Digits ds → (get_or ds i 0 ≡ 0 → ⊥) → (get_or ds (i + 16) 0 ≡ 0 → ⊥) → ((j : ℕ) → (j ≡ i → ⊥) → (j ≡ i + 16 → ⊥) → get_or ds j 0 ≡ 0)
-    → remainder 0 ds ≡ 0
+-- The remainder of two ones that are n + 1 apart, and zeros besides, is 0 where n is 15.
+two_cancel : (n i : ℕ) (ds : List ℕ) → n ≡ 15 → Digits ds → (get_or ds i 0 ≡ 0 → ⊥) → (get_or ds (i + suc n) 0 ≡ 0 → ⊥)
+    → ((j : ℕ) → (j ≡ i → ⊥) → (j ≡ i + suc n → ⊥) → get_or ds j 0 ≡ 0) → remainder 0 ds ≡ 0
 unfolding remainder Digits
-two_cancel i [] d a b z = absurd (a refl)
-two_cancel zero (c ∷ ds) d a b z =
+two_cancel n i [] l d a b z = absurd (a refl)
+two_cancel n zero (c ∷ ds) l d a b z =
     let t : bring_down 0 c ≡ 1 = omega (arith, shifted 0 c (lit< tt) d.0, d.0, a) in
-    rw t (second_cancels 15 0 ds refl d.1 b (λ i q. z (suc i) (λ e. omega arith) (λ e. q (omega arith))))
-two_cancel (suc i) (c ∷ ds) d a b z =
+    let e : 0 + suc n ≡ suc n = omega arith in
+    rw t (second_cancels n 0 ds (omega arith) d.1 (rw e at b) (λ i q. z (suc i) (λ e. omega arith) (λ e. q (omega arith))))
+two_cancel n (suc i) (c ∷ ds) l d a b z =
     let t : bring_down 0 c ≡ 0 = omega (arith, shifted 0 c (lit< tt) d.0, z 0 (λ q. omega arith) (λ q. omega arith)) in
-    let e : suc i + 16 ≡ suc (i + 16) = omega arith in
-    rw t (two_cancel i ds d.1 a (rw e at b) (λ j p q. z (suc j) (λ e. p (omega arith)) (λ e. q (omega arith))))
+    let e : suc i + suc n ≡ suc (i + suc n) = omega arith in
+    rw t (two_cancel n i ds l d.1 a (rw e at b) (λ j p q. z (suc j) (λ e. p (omega arith)) (λ e. q (omega arith))))
 
--- Bits of which two, sixteen apart, are altered have the same remainder.
-remainders_same : (i : ℕ) (xs ys : List ℕ) → Digits xs → Digits ys → TwoApart 16 i xs ys → remainder 0 xs ≡ remainder 0 ys
-remainders_same i xs ys dx dy p =
+-- Bits of which two that are n + 1 apart are altered have the same remainder where n is 15.
+remainders_same : (n i : ℕ) (xs ys : List ℕ) → n ≡ 15 → Digits xs → Digits ys → TwoApart (suc n) i xs ys → remainder 0 xs ≡ remainder 0 ys
+remainders_same n i xs ys l dx dy p =
     let ds : List ℕ = sums xs ys in
-    let n = p.same_length in
+    let k = p.same_length in
     xor_zero_same (remainder 0 xs) (remainder 0 ys)
-    (sym (remainder_sum xs ys 0 0 n dx dy (lit< tt) (lit< tt))
-    ∙ two_cancel i ds (sums_digits xs ys dx dy) (differs_sum xs ys n i p.first) (differs_sum xs ys n (i + 16) p.second)
-    (λ j a b. zero_unless (get_or ds j 0) (λ o. other j a b (p.nowhere_else j (sum_differs xs ys n j o)))))
+    (sym (remainder_sum xs ys 0 0 k dx dy (lit< tt) (lit< tt))
+    ∙ two_cancel n i ds l (sums_digits xs ys dx dy) (differs_sum xs ys k i p.first) (differs_sum xs ys k (i + suc n) p.second)
+    (λ j a b. zero_unless (get_or ds j 0) (λ o. other j a b (p.nowhere_else j (sum_differs xs ys k j o)))))
   where
-    other : (j : ℕ) → (j ≡ i → ⊥) → (j ≡ i + 16 → ⊥) → (j ≡ i) ⊎ (j ≡ i + 16) → ⊥
+    other : (j : ℕ) → (j ≡ i → ⊥) → (j ≡ i + suc n → ⊥) → (j ≡ i) ⊎ (j ≡ i + suc n) → ⊥
     other j a b (inl e) = a e
     other j a b (inr e) = b e
 
@@ -72,13 +73,13 @@ pub two_apart_agree : (bs cs : List ℕ) (high low high' low' i : ℕ) → agree
     → TwoApart 16 i (checked_bits bs high low) (checked_bits cs high' low') → agrees cs high' low' ≡ true
 two_apart_agree bs cs high low high' low' i e hh hl p =
     ones_agree cs high' low' hh hl
-    (sym (remainders_same i (checked_bits bs high low) (checked_bits cs high' low') (coefficients_digits (bs ++ high ∷ low ∷ [])) (coefficients_digits (cs ++ high' ∷ low' ∷ [])) p)
+    (sym (remainders_same 15 i (checked_bits bs high low) (checked_bits cs high' low') refl (coefficients_digits (bs ++ high ∷ low ∷ [])) (coefficients_digits (cs ++ high' ∷ low' ∷ [])) p)
     ∙ agrees_ones bs high low e)
 
 -- Two bits sixteen apart are a burst of seventeen bits.
 pub two_apart_burst : (i : ℕ) (xs ys : List ℕ) → TwoApart 16 i xs ys → Burst 17 xs ys
 two_apart_burst i xs ys p =
-    record { same_length = p.same_length; start = i; within = λ j d. go j (p.nowhere_else j d); place = i; differs = p.first }
+    burst_at 17 i i xs ys p.same_length (λ j d. go j (p.nowhere_else j d)) p.first
   where
     go : (j : ℕ) → (j ≡ i) ⊎ (j ≡ i + 16) → (i ≤ j) × (j < i + 17)
     go j (inl e) = (omega arith, omega arith)
