@@ -40,7 +40,7 @@ fn fill_tracks(file: &[u8], n: usize, tracks: &mut [u8])
     while i < n {
         let l = table::length_in(file, i);
         let to = offset + l;
-        bytes::copy(&file[offset..to], &mut tracks[at..]);
+        cylinder_layout::copy(&file[offset..to], &mut tracks[at..]);
         offset = to + cylinder_layout::packed_size(l);
         at += l;
         i += 1;
