@@ -1,13 +1,10 @@
 -- `find_home` meets its contract: home's place is the place found in what is left of the window.
-use mathlib.Core.Path.{◌≡◌, refl, sym, ◌∙◌}
+use mathlib.Core.Path.{◌≡◌}
 use Prim.Native.Nat.{◌+◌, ◌-◌, ◌≤◌, ◌<◌}
-use native.Mathlib.Nat.{add-zero}
-use native.Mathlib.Omega.{arith}
 use lib.ListN.{length, drop}
 use Rattle.format.specs.Lent.{cells}
 use Rattle.format.specs.Opening.{starts_with, plain_opening}
 use Rattle.format.specs.Home.{home_from, find_home}
-use Rattle.search.proofs.Home.{plain_short, plain_other, plain_marked, plain_same, home_here, home_later, home_nowhere}
 use Rattle.search.proofs.find_home.Given as goal
 
 -- What holds at each cell of an opening: k cells agree at a place of the window before which home does not open.

@@ -1,6 +1,5 @@
 -- `lent_for_reading` meets its contract.
 use mathlib.Core.Path.{sym, ◌∙◌}
-use borrow.Author.Tests.{not-true, not-false}
 use Rattle.format.specs.Lent.{lent_for_reading}
 use Rattle.search.proofs.lent_for_reading.Goals as goal
 

@@ -1,6 +1,5 @@
 -- `lent_for_writing` meets its contract.
 use mathlib.Core.Path.{sym, ◌∙◌}
-use borrow.Author.Tests.{not-true, not-false}
 use Rattle.format.specs.Lent.{lent_for_writing}
 use Rattle.search.proofs.lent_for_writing.Goals as goal
 

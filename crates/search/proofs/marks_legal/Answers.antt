@@ -1,12 +1,7 @@
 -- `marks_legal` meets its contract: the marks are legal where the fold so far and those that are left are.
-use mathlib.Core.Path.{◌≡◌, refl, sym, ◌∙◌}
-use Prim.Native.Nat.{◌-◌, ◌≤◌, ◌<◌}
+use mathlib.Core.Path.{refl, sym, ◌∙◌}
 use native.Mathlib.Omega.{arith}
 use native.Mathlib.Numerals.{add-one}
-use mathlib.Core.Bool.{◌&&◌}
-use lib.Dec.{ltb}
-use lib.ListN.{length, drop}
-use Rattle.format.specs.Lent.{marks_legal}
 use Rattle.search.proofs.Fold.{legal_turn, legal_end}
 use Rattle.search.proofs.marks_legal.Goals as goal
 

@@ -1,7 +1,6 @@
 -- `opens_marked` meets its contract: the bytes and marks that it compares are the cells of the marked opening.
 use Rattle.format.specs.Lent.{cells}
 use Rattle.format.specs.Opening.{opens}
-use borrow.Author.Rules.{rules}
 use Rattle.search.proofs.opens_marked.Goals as goal
 
 -- UNMAPPED tie.Need-slice-aggregate-starts-with

@@ -1,6 +1,5 @@
 -- `opens_plain` meets its contract: the bytes and marks that it compares are the cells of the plain opening.
 use Rattle.format.specs.Lent.{cells}
-use borrow.Author.Rules.{rules}
 use Rattle.search.proofs.opens_plain.Goals as goal
 
 -- UNMAPPED tie.Need-slice-aggregate-starts-with

@@ -1,13 +1,10 @@
 -- `starts_with` meets its contract: the opening stands there where the fold so far is 0 and what is left of it stands behind the cells compared.
-use mathlib.Core.Path.{◌≡◌, sym, ◌∙◌}
-use Prim.Native.Nat.{◌+◌, ◌-◌, ◌≤◌}
+use mathlib.Core.Path.{sym, ◌∙◌}
+use Prim.Native.Nat.{◌+◌}
 use native.Mathlib.Nat.{add-zero}
 use native.Mathlib.Omega.{arith}
-use mathlib.Core.Bool.{◌&&◌}
-use lib.Dec.{eqb}
-use lib.ListN.{length, drop, length-drop}
+use lib.ListN.{drop, length-drop}
 use Rattle.format.specs.Lent.{cells}
-use Rattle.format.specs.Opening.{starts_with}
 use Rattle.format.proofs.Cells.Opening.{starts_short}
 use Rattle.search.proofs.Fold.{opening_turn, opening_end}
 use Rattle.search.proofs.starts_with.Goals as goal

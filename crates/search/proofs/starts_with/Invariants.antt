@@ -1,15 +1,11 @@
 -- `starts_with` meets its contract: the opening stands there where the fold so far is 0 and what is left of it stands behind the cells compared.
-use mathlib.Core.Path.{◌≡◌, sym, ◌∙◌}
+use mathlib.Core.Path.{◌≡◌}
 use Prim.Native.Nat.{◌+◌, ◌-◌, ◌≤◌}
-use native.Mathlib.Nat.{add-zero}
-use native.Mathlib.Omega.{arith}
 use mathlib.Core.Bool.{◌&&◌}
 use lib.Dec.{eqb}
-use lib.ListN.{length, drop, length-drop}
+use lib.ListN.{length, drop}
 use Rattle.format.specs.Lent.{cells}
 use Rattle.format.specs.Opening.{starts_with}
-use Rattle.format.proofs.Cells.Opening.{starts_short}
-use Rattle.search.proofs.Fold.{opening_turn, opening_end}
 use Rattle.search.proofs.starts_with.Given as goal
 
 -- What holds at each turn.

@@ -1,9 +1,7 @@
 -- `zero_run` meets its contract: what was passed is zero, a step that is not all zeros ends it, and the last step starts within what was passed.
-use mathlib.Core.Path.{◌≡◌}
-use Prim.Native.Nat.{◌+◌, ◌-◌, ◌≤◌}
+use Prim.Native.Nat.{◌-◌}
 use native.Mathlib.Omega.{arith}
-use lib.ListN.{length, drop}
-use Rattle.search.specs.Zero.{zero_run}
+use lib.ListN.{length}
 use Rattle.search.proofs.Zero.{zeros_behind}
 use Rattle.search.proofs.Step.{step_zero, step_set}
 use Rattle.search.proofs.zero_run.Goals as goal

@@ -1,11 +1,8 @@
 -- `zeros_singly` meets its contract: the zeros are those passed and those from place i on.
 use mathlib.Core.Path.{◌≡◌}
 use Prim.Native.Nat.{◌+◌, ◌-◌, ◌≤◌}
-use native.Mathlib.Omega.{arith}
-use native.Mathlib.Numerals.{add-one}
 use lib.ListN.{length, drop}
 use Rattle.search.specs.Zero.{zero_run}
-use Rattle.search.proofs.Zero.{zeros_on, zeros_off, zeros_none}
 use Rattle.search.proofs.zeros_singly.Given as goal
 
 -- What holds at each turn: the bytes up to place i are 0.

@@ -1,6 +1,5 @@
 -- `later_right` meets its contract: the tests in turn.
 use mathlib.Core.Path.{sym, ◌∙◌}
-use borrow.Author.Tests.{not-true, not-false}
 use Rattle.sector.specs.Right.{sector_right}
 use Rattle.sector.proofs.later_right.Goals as goal
 

@@ -1,7 +1,4 @@
 -- `in_order` meets its contract.
-use mathlib.Core.Path.{ap}
-use lib.Dec.{leb}
-use borrow.Author.Tests.{le-leb, lt-leb}
 use Rattle.sectors.proofs.Rest.{bounds_none, bounds_some}
 use Rattle.sectors.proofs.in_order.Goals as goal
 

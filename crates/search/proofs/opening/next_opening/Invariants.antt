@@ -1,11 +1,9 @@
 -- `next_opening` meets its contract: the first opening is the first of what is left.
-use mathlib.Core.Path.{◌≡◌, refl, sym, ◌∙◌}
+use mathlib.Core.Path.{◌≡◌}
 use Prim.Native.Nat.{◌+◌, ◌-◌}
-use native.Mathlib.Omega.{arith}
 use lib.ListN.{length, drop}
 use Rattle.format.specs.Lent.{cells}
 use Rattle.format.specs.Span.{before_opening}
-use Rattle.search.proofs.Openings.{opening_end, opening_none, opening_mark, opening_room, opening_here, opening_later}
 use Rattle.search.proofs.opening.next_opening.Given as goal
 
 -- What holds at each turn: no opening stands before place q.

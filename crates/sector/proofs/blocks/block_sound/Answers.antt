@@ -2,7 +2,6 @@
 use mathlib.Core.Path.{sym, ap, ◌∙◌}
 use Prim.Native.Nat.{◌-◌}
 use lib.ListN.{length, take, drop}
-use borrow.Author.Tests.{not-true, not-false}
 use Rattle.format.specs.Opening.{check_follows, closing_follows}
 use Rattle.format.specs.Fault.{check_wrong, closing_wrong}
 use Rattle.format.proofs.Cells.Field.{closed_parts}

@@ -1,6 +1,5 @@
 -- `blocks_right` meets its contract: the tests in turn.
 use mathlib.Core.Path.{sym, ap, ◌∙◌}
-use borrow.Author.Tests.{not-true, not-false}
 use Rattle.sector.specs.Right.{is_sound, blocks_right}
 use Rattle.sector.proofs.blocks.blocks_right.Goals as goal
 

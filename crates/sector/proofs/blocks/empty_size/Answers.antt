@@ -1,7 +1,6 @@
 -- `empty_size` meets its contract: the three bytes behind the place of the 00 decide.
 use mathlib.Core.Path.{sym, ◌∙◌}
 use Rattle.sector.proofs.BlockEnd.{size_short, size_closed, size_open}
-use borrow.Author.Rules.{rules}
 use Rattle.sector.proofs.blocks.empty_size.Goals as goal
 
 pub returns-then-c-lt-EMPTY_BLOCK : goal.returns-then-c-lt-EMPTY_BLOCK

@@ -4,7 +4,6 @@ use mathlib.Core.Bool.{true}
 use Prim.Native.Nat.{◌-◌}
 use mathlib.Core.List.{[], ◌∷◌}
 use lib.ListN.{length, take, drop}
-use borrow.Author.Tests.{not-true, not-false}
 use Rattle.format.specs.Opening.{starts_with}
 use Rattle.format.specs.Fault.{check_wrong, closing_wrong}
 use Rattle.base.proofs.Tests.{and_true}

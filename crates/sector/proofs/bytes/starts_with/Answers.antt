@@ -1,9 +1,7 @@
 -- `starts_with` meets its contract: the list starts so where what is left of these stands behind the bytes compared.
-use mathlib.Core.Path.{◌≡◌, refl, sym, ◌∙◌}
-use Prim.Native.Nat.{◌-◌, ◌≤◌}
+use mathlib.Core.Path.{refl, sym, ◌∙◌}
 use native.Mathlib.Omega.{arith}
-use lib.ListN.{length, drop, drop_of_length-le}
-use Rattle.format.specs.Opening.{starts_with}
+use lib.ListN.{drop_of_length-le}
 use Rattle.format.proofs.Cells.Opening.{starts_short, starts_other, starts_same}
 use Rattle.sector.proofs.bytes.starts_with.Goals as goal
 

@@ -1,10 +1,8 @@
 -- `starts_with` meets its contract: the list starts so where what is left of these stands behind the bytes compared.
-use mathlib.Core.Path.{◌≡◌, refl, sym, ◌∙◌}
+use mathlib.Core.Path.{◌≡◌}
 use Prim.Native.Nat.{◌-◌, ◌≤◌}
-use native.Mathlib.Omega.{arith}
-use lib.ListN.{length, drop, drop_of_length-le}
+use lib.ListN.{length, drop}
 use Rattle.format.specs.Opening.{starts_with}
-use Rattle.format.proofs.Cells.Opening.{starts_short, starts_other, starts_same}
 use Rattle.sector.proofs.bytes.starts_with.Given as goal
 
 -- What holds at each turn: k bytes agree.

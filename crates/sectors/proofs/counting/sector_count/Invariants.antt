@@ -1,9 +1,7 @@
 -- `sector_count` meets its contract. The loop's invariant: the sectors from the place that is come to on are left to count.
 use Prim.Native.Nat.{◌-◌}
-use native.Mathlib.Omega.{arith}
 use lib.ListN.{length}
-use Rattle.sectors.proofs.Rest.{onward}
-use Rattle.sectors.proofs.Counted.{Counting, count_start, count_end, count_next}
+use Rattle.sectors.proofs.Counted.{Counting}
 use Rattle.sectors.proofs.counting.sector_count.Given as goal
 
 abbrev pub invariant-loop-p : goal.invariant-loop-p

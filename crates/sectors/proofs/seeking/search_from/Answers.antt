@@ -1,10 +1,8 @@
 -- `search_from` meets its contract: the search of all sectors is the search of those from place p on.
-use Prim.Native.Nat.{◌-◌}
 use native.Mathlib.Omega.{arith}
-use lib.ListN.{length}
 use Rattle.sectors.proofs.Rest.{onward}
-use Rattle.sectors.proofs.Found.{Searching, search_start, search_found, search_end, search_next}
-use Rattle.sectors.proofs.Passing.{Passed, pass_start, pass_found, pass_stuck, pass_next}
+use Rattle.sectors.proofs.Found.{search_start, search_found, search_end, search_next}
+use Rattle.sectors.proofs.Passing.{pass_start, pass_found, pass_stuck, pass_next}
 use Rattle.sectors.proofs.seeking.search_from.Goals as goal
 
 pub loop-x-init : goal.loop-x-init
