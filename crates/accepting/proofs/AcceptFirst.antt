@@ -56,7 +56,7 @@ pub record First (p n : ℕ) (t m ns : List ℕ) : Type 0 where
   pub later_cut : later_spans (cells (drop (p + n) t) (drop (p + n) m)) ≡ later_spans (drop p (cells t m))
   pub rest : LaterSpans (p + n) (drop (p + n) t) (drop (p + n) m) ns
 
--- The later spans are IsListed from sector 0's end on.
+-- The later spans are listed from sector 0's end on.
 later_listed : (p : ℕ) (t m ns : List ℕ) → NoStrayMark p t m ns → ns ≡ starts_of (p + length (before_opening (drop p (cells t m)))) (later_spans (drop p (cells t m)))
 later_listed p t m ns u =
     let z : 0 + p ≡ p = omega arith in

@@ -47,7 +47,7 @@ unfolding starts_of
 next_listed p l g [] e = omega (arith, length-append g [])
 next_listed p l g (k ∷ gs) e = refl
 
--- Nothing follows the first span exactly where no more than one is IsListed.
+-- Nothing follows the first span exactly where no more than one is listed.
 last_listed : (p : ℕ) (g : List ℕ) (gs : List (List ℕ)) → leb (length (starts_of p (g ∷ gs))) 1 ≡ none gs
 unfolding starts_of
 last_listed p g [] = refl

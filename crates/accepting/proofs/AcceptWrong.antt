@@ -56,7 +56,7 @@ module _ (h : Home) (i : ℕ) (a : Address) (p n : ℕ) (t m ns : List ℕ) (f :
   by_bytes : sector_right h i (settled a) (none f.later) (drop 8 f.span) ≡ sector_right h i (settled a) last (take (n - 8) (drop 8 t))
   by_bytes = rw (← f.last, ← l, ← f.bytes)
 
-  -- Its sector is wrong: all that are IsListed are left.
+  -- Its sector is wrong: all that are listed are left.
   pub wrong_here : length ns ≡ suc (length f.later) → sector_right h i (settled a) last (take (n - 8) (drop 8 t)) ≡ false → length ns ≡ wrong_left h i a (later_spans (cells t m))
   unfolding wrong_left
   wrong_here c w = rw (f.cut, by_bytes, w) c
@@ -66,7 +66,7 @@ module _ (h : Home) (i : ℕ) (a : Address) (p n : ℕ) (t m ns : List ℕ) (f :
   unfolding wrong_left
   wrong_later w = rw (f.cut, by_bytes, w, f.later_cut)
 
--- As many are IsListed as there are spans.
+-- As many are listed as there are spans.
 pub front_count : (p n : ℕ) (t m ns : List ℕ) → LaterSpans p t m ns → (f : Front p n t m ns) → length ns ≡ suc (length f.later)
 front_count p n t m ns r f = ap length r.places ∙ length_starts p (later_spans (cells t m)) ∙ ap length f.cut
 
@@ -188,7 +188,7 @@ last_at ns k h =
 -- The wrong sector of the track t with the marks m, where `left` sectors are left from it on.
 module _ (h : Home) (a : Address) (t m ns : List ℕ) (p : ℕ) (r : LaterSpans p (drop p t) (drop p m) ns) (left : ℕ)
     (e : left ≡ wrong_left h 1 a (later_spans (cells (drop p t) (drop p m)))) where
-  -- It is IsListed,
+  -- It is listed,
   pub wrong_listed : left ≤ length ns
   wrong_listed = omega (arith, e, wrong_most h 1 a (later_spans (cells (drop p t) (drop p m))), listed_length t m ns p r)
 

@@ -120,7 +120,7 @@ module _ (e q r : ℕ) (d : List ℕ) (so : r ≡ unmarked_run (drop q d)) where
         jump e q (s - q) (drop q d) (omega arith)
         ∙ rw (i, jumped) (marks_opening e s (drop s d) l o ∙ ap (judge_marks e 0 (s + 8)) (drop-drop 8 s d))
 
-    -- and IsListed.
+    -- and listed.
     pub start_listed : opens (drop s d) ≡ true → starts_in q (drop q d) ≡ s ∷ starts_in (s + 8) (drop (s + 8) d)
     start_listed o =
         let i : q + (s - q) ≡ s = omega arith in

@@ -9,7 +9,6 @@ use lib.Dec.{ltb}
 use borrow.Author.Tests.{ltb-true}
 use Rattle.format.specs.Lent.{bytes_of, marks_of, unmarked}
 use Rattle.base.proofs.Tests.{and_both}
-use Rattle.format.proofs.Cells.Opening.{unmarked_below as unmarked_bytes}
 
 -- The bytes of two lists of cells are joined as the cells are.
 pub bytes_append : (xs ys : List ℕ) → bytes_of (xs ++ ys) ≡ bytes_of xs ++ bytes_of ys

@@ -17,7 +17,7 @@ use Rattle.format.proofs.Cells.Opening.{unmarked_append, unmarked_replicate}
 use Rattle.format.proofs.Cells.Field.{unmarked_block, length_closing}
 use Rattle.format.proofs.Sector.Valid.{FitsCount, info_unmarked}
 use Rattle.format.proofs.Sector.WrittenRest.{written_rest, written_form, rest_unmarked, length_rest}
-use Rattle.format.proofs.Sector.ReadBack.{length_written, length_written as sector-length}
+use Rattle.format.proofs.Sector.ReadBack.{length_written}
 use Rattle.format.proofs.Track.Pairs.{bytes_unmarked}
 use Rattle.format.proofs.Written.WrittenHome.{head_length_holds}
 use Rattle.encode.specs.Room.{address_of, both_fit, sector_fits}

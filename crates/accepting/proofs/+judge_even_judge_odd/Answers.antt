@@ -1,5 +1,5 @@
 -- The cycle of calls of `judge_even` and `judge_odd` meets its contracts: each judges the next span and hands on what is left.
-use Rattle.std.proofs.Common.{◌≡◌, refl, sym, ap, ◌∙◌, ℕ, ◌+◌, ◌-◌, ◌<◌, length, get_or, arith, rules}
+use Rattle.std.proofs.Common.{refl, sym, ap, ◌∙◌, ◌+◌, ◌-◌, length, get_or, arith}
 use lib.ListN.{length-drop}
 use Rattle.sector.specs.As.{as_address, as_home}
 use Rattle.base.proofs.Lists.{part_all}

@@ -1,14 +1,11 @@
 -- `judge_numbers` meets its contract: the answer is that of the sectors left and of the numbers whose flags are set.
-use mathlib.Core.Path.{◌≡◌, refl, sym, ap, ◌∙◌}
-use Prim.Native.Nat.{ℕ, ◌-◌, ◌+◌, ◌≤◌}
+use mathlib.Core.Path.{refl, sym, ap, ◌∙◌}
+use Prim.Native.Nat.{ℕ, ◌-◌, ◌+◌}
 use native.Mathlib.Omega.{arith}
-use lib.ListN.{length, get_or, drop, replicate, length-drop, length-set, length-replicate}
+use lib.ListN.{length, get_or, replicate, length-drop, length-set, length-replicate}
 use Rattle.format.specs.Judged.{answer_of}
-use Rattle.format.specs.Lent.{cells}
-use Rattle.format.specs.Span.{later_spans}
-use Rattle.accepting.specs.Accepting.{LaterSpans}
 use Rattle.accepting.proofs.AcceptFirst.{first_front}
-use Rattle.accepting.proofs.AcceptNumbers.{flagged, flagged_none, ahead, ahead_rest, ahead_repeated, ahead_next, zero_flagged}
+use Rattle.accepting.proofs.AcceptNumbers.{flagged_none, ahead, ahead_rest, ahead_repeated, ahead_next, zero_flagged}
 use Rattle.accepting.proofs.judge_numbers.Goals as goal
 
 pub listed_span-zero-requires : goal.listed_span-zero-requires

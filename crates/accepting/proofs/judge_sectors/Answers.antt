@@ -3,7 +3,6 @@ use mathlib.Core.Path.{refl, sym, ◌∙◌}
 use Prim.Native.Nat.{◌-◌}
 use native.Mathlib.Omega.{arith}
 use lib.ListN.{length, get_or}
-use borrow.Author.Tests.{not-true, not-false}
 use Rattle.sector.specs.As.{as_address, as_home}
 use Rattle.accepting.proofs.AcceptFirst.{first_front, first_missing, first_refused, first_good}
 use Rattle.accepting.proofs.judge_sectors.Goals as goal

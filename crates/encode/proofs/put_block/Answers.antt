@@ -4,7 +4,6 @@ use mathlib.Core.List.{◌++◌}
 use Rattle.format.specs.Opening.{plain_opening, closing}
 use Rattle.format.specs.Written.{written_block}
 use Rattle.base.proofs.Laid.{laid_next}
-use borrow.Author.Rules.{rules}
 use Rattle.encode.proofs.put_block.Goals as goal
 
 -- UNMAPPED tie.Need-slice-aggregate-put-bytes

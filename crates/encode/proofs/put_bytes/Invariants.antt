@@ -1,12 +1,8 @@
 -- `put_bytes` meets its contract: at each turn the bytes passed are laid.
-use mathlib.Core.Path.{◌≡◌, refl, sym, ap, ◌∙◌}
-use mathlib.Core.List.{List}
-use Prim.Native.Nat.{ℕ, ◌+◌, ◌-◌, ◌≤◌}
-use native.Mathlib.Omega.{arith}
-use lib.ListN.{length, take, set, get_or, length-set}
-use lib.Seq.{take-length}
+use mathlib.Core.Path.{◌≡◌}
+use Prim.Native.Nat.{◌-◌, ◌≤◌}
+use lib.ListN.{length, take}
 use Rattle.base.specs.Laid.{laid_at}
-use Rattle.base.proofs.Laid.{laid_none, copy_more}
 use Rattle.encode.proofs.put_bytes.Given as goal
 
 -- What holds at each turn: the first i bytes are laid, and the length is kept.

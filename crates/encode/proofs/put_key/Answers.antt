@@ -28,5 +28,8 @@ returns c =
     let one = c.put_gap-p in
     let two = c.put_block in
     let k = a.key.now in
-    let f = c.if-key-eq0.false in record { place = omega (arith, key_size_some (length k) f); bytes = laid_next a.at _ inner_gap (written_block k) a.t.now _ _ (omega arith) one.ensures.place one.ensures.bytes two.ensures.bytes
-          ∙ ap (λ (l : List ℕ). laid_at a.at l a.t.now) (sym (key_some k f)) }
+    let f = c.if-key-eq0.false in record {
+      place = omega (arith, key_size_some (length k) f);
+      bytes = laid_next a.at _ inner_gap (written_block k) a.t.now _ _ (omega arith) one.ensures.place one.ensures.bytes two.ensures.bytes
+          ∙ ap (λ (l : List ℕ). laid_at a.at l a.t.now) (sym (key_some k f));
+    }

@@ -7,7 +7,6 @@ use lib.ListN.{replicate}
 use Rattle.base.specs.Laid.{laid_at}
 use Rattle.base.proofs.Laid.{laid_next}
 use Rattle.encode.proofs.Openings.{opening_first, opening_later, marks_first, marks_later}
-use borrow.Author.Rules.{rules}
 use Rattle.encode.proofs.put_marks.Goals as goal
 
 pub returns-then-first : goal.returns-then-first

@@ -5,7 +5,6 @@ use native.Mathlib.Omega.{arith}
 use mathlib.Core.List.{List}
 use Rattle.base.specs.Laid.{laid_at}
 use Rattle.encode.proofs.Openings.{opening_first, opening_later, bytes_first, bytes_later}
-use borrow.Author.Rules.{rules}
 use Rattle.encode.proofs.put_opening.Goals as goal
 
 -- UNMAPPED tie.Need-slice-aggregate-put-bytes

@@ -1,11 +1,8 @@
 -- `put_run` meets its contract: at each turn the bytes passed are laid.
-use mathlib.Core.Path.{◌≡◌, refl, sym, ap, ◌∙◌}
-use mathlib.Core.List.{List}
-use Prim.Native.Nat.{ℕ, ◌+◌, ◌-◌, ◌≤◌}
-use native.Mathlib.Omega.{arith}
-use lib.ListN.{length, set, replicate, length-set}
+use mathlib.Core.Path.{◌≡◌}
+use Prim.Native.Nat.{◌-◌, ◌≤◌}
+use lib.ListN.{length, replicate}
 use Rattle.base.specs.Laid.{laid_at}
-use Rattle.base.proofs.Laid.{laid_none, run_more}
 use Rattle.encode.proofs.put_run.Given as goal
 
 -- What holds at each turn: i bytes are laid, and the length is kept.

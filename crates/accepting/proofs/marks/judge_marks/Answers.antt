@@ -1,15 +1,13 @@
 -- `judge_marks` meets its contract: what is left behind each opening decides, and the table has the openings passed.
 use mathlib.Core.Path.{◌≡◌, refl, sym, ap, ◌∙◌}
-use Prim.Native.Nat.{◌+◌, ◌-◌, ◌*◌, ◌≤◌, ◌<◌}
+use Prim.Native.Nat.{◌+◌, ◌-◌, ◌≤◌, ◌<◌}
 use native.Mathlib.Omega.{arith}
 use native.Mathlib.Numerals.{add-one}
-use borrow.Author.Tests.{not-true, not-false}
 use mathlib.Core.List.{[], ◌++◌, append-nil}
 use lib.ListN.{length, take, drop, length-drop, length-set, drop_of_length-le}
 use Rattle.format.specs.Lent.{cells}
-use Rattle.format.specs.Accept.{judge_marks}
 use Rattle.search.proofs.Jump.{run_nil}
-use Rattle.accepting.specs.Starts.{starts_in, most_openings}
+use Rattle.accepting.specs.Starts.{starts_in}
 use Rattle.accepting.proofs.MarkToMark.{ends_good, ends_starts, mark_within, close_stray, start_early, start_other, start_passed, start_listed, start_room, listed_more}
 use Rattle.accepting.proofs.marks.judge_marks.Goals as goal
 

@@ -1,11 +1,10 @@
 -- `next_candidate` meets its contract: the first candidate is the first of what is left.
-use mathlib.Core.Path.{◌≡◌, sym, ap, ◌∙◌}
-use Prim.Native.Nat.{◌-◌}
+use mathlib.Core.Path.{sym, ap, ◌∙◌}
 use native.Mathlib.Omega.{arith}
-use lib.ListN.{length, take}
+use lib.ListN.{take}
 use Rattle.format.specs.Lent.{cells}
 use Rattle.search.specs.Place.{judged_place}
-use Rattle.reader.proofs.CandidateNext.{candidates_at, candidates_end, candidates_here, candidates_later}
+use Rattle.reader.proofs.CandidateNext.{candidates_end, candidates_here, candidates_later}
 use Rattle.reader.proofs.candidate.next_candidate.Goals as goal
 
 pub loop-p-init : goal.loop-p-init

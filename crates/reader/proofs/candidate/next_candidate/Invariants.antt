@@ -1,11 +1,10 @@
 -- `next_candidate` meets its contract: the first candidate is the first of what is left.
-use mathlib.Core.Path.{◌≡◌, sym, ap, ◌∙◌}
+use mathlib.Core.Path.{◌≡◌}
 use Prim.Native.Nat.{◌-◌}
-use native.Mathlib.Omega.{arith}
-use lib.ListN.{length, take}
+use lib.ListN.{length}
 use Rattle.format.specs.Lent.{cells}
 use Rattle.search.specs.Place.{judged_place}
-use Rattle.reader.proofs.CandidateNext.{candidates_at, candidates_end, candidates_here, candidates_later}
+use Rattle.reader.proofs.CandidateNext.{candidates_at}
 use Rattle.reader.proofs.candidate.next_candidate.Given as goal
 
 -- What holds at each turn: no candidate stands before p.

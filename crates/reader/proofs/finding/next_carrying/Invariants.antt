@@ -1,18 +1,11 @@
 -- `next_carrying` meets its contract: what carries S is what carries it of what is left.
-use mathlib.Core.Path.{◌≡◌, refl, sym, ap, ◌∙◌}
-use Prim.Native.Nat.{ℕ, ◌+◌, ◌-◌}
-use native.Mathlib.Omega.{arith}
-use lib.ListN.{length, take, drop, length-take, length-drop}
+use mathlib.Core.Path.{◌≡◌}
+use Prim.Native.Nat.{◌-◌}
+use lib.ListN.{length}
 use Rattle.format.specs.Lent.{cells}
-use Rattle.format.specs.Count.{count_number}
 use Rattle.format.specs.Find.{carrying}
-use Rattle.format.specs.Sector.{opening_length}
 use Rattle.search.specs.Place.{judged_place}
-use Rattle.format.proofs.Track.Pairs.{length_cells}
-use Rattle.reader.specs.Finding.{as_candidate}
-use Rattle.reader.proofs.CandidateNext.{candidates_at, candidates_first, none_first}
-use Rattle.reader.proofs.CandidateBehind.{candidates_behind}
-use Rattle.reader.proofs.FindPart.{carrying_here, carrying_other}
+use Rattle.reader.proofs.CandidateNext.{candidates_at}
 use Rattle.reader.proofs.finding.next_carrying.Given as goal
 
 -- What holds at each turn: no candidate before p carries s.

@@ -28,8 +28,11 @@ returns-in-Stands-next_carrying c =
     let h = c.find_home-home in
     let n = c.next_carrying in
     let x = as_candidate a.track.now c.in-Stands.x in
-    let y = as_candidate a.track.now c.in-Stands-next_carrying.y in record { result_value = ap (λ (z : Answer). refused z) c.sector_repeated.ensures
-          ∙ sym (find_repeated a.s (as_wanted a.wanted) d (judged_place h.result) h.ensures.result_value x (rw c.in-Stands.is at n.ensures) y (rw c.in-Stands-next_carrying.is at c.next_carrying-in-Stands.ensures)); part_within = tt }
+    let y = as_candidate a.track.now c.in-Stands-next_carrying.y in record {
+      result_value = ap (λ (z : Answer). refused z) c.sector_repeated.ensures
+          ∙ sym (find_repeated a.s (as_wanted a.wanted) d (judged_place h.result) h.ensures.result_value x (rw c.in-Stands.is at n.ensures) y (rw c.in-Stands-next_carrying.is at c.next_carrying-in-Stands.ensures));
+      part_within = tt;
+    }
 
 pub returns-in-Not-next_carrying : goal.returns-in-Not-next_carrying
 returns-in-Not-next_carrying c =
