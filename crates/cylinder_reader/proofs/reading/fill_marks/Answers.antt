@@ -1,0 +1,100 @@
+-- `fill_marks` meets its contract: the marks of the tracks passed are written.
+use mathlib.Core.Path.{◌≡◌, refl}
+use Prim.Native.Nat.{◌+◌}
+use native.Mathlib.Omega.{arith}
+use Rattle.base.specs.Indexed.{sum_to, join_to}
+use Rattle.base.specs.Laid.{laid_over}
+use Rattle.base.proofs.Indexed.{sum_next}
+use Rattle.base.proofs.Filling.{fill_more}
+use Rattle.base.proofs.Lists.{cut_length, part_all_length}
+use Rattle.cylinder.specs.Reading.{length_in, marks_in}
+use Rattle.cylinder.proofs.Sound.{due_first, due_next}
+use Rattle.cylinder.proofs.HeldCylinder.{length_marks}
+use Rattle.cylinder_reader.proofs.Pieces.{table_in, piece_in, marks_cut}
+use borrow.Author.Rules.{rules}
+use Rattle.cylinder_reader.proofs.reading.fill_marks.Goals as goal
+
+pub overflow_mul-offset : goal.overflow_mul-offset
+overflow_mul-offset c =
+    let h = table_in c.args.file.now c.args.n c.requires.n_value c.requires.file_value.0 in
+    search rules
+
+pub overflow_add-offset : goal.overflow_add-offset
+overflow_add-offset c =
+    let h = table_in c.args.file.now c.args.n c.requires.n_value c.requires.file_value.0 in
+    search rules
+
+pub loop-i-init : goal.loop-i-init
+unfolding sum_to join_to laid_over
+loop-i-init c = (omega arith, omega (arith, due_first c.args.file.now, c.requires.n_value), refl, refl, refl)
+
+pub length_in-l-requires : goal.length_in-l-requires
+length_in-l-requires c =
+    let h = piece_in c.args.file.now c.args.n c.loop-i.i c.requires.n_value c.requires.file_value.0 (omega arith) in
+    search rules
+
+pub overflow_add-from : goal.overflow_add-from
+overflow_add-from c =
+    let h = piece_in c.args.file.now c.args.n c.loop-i.i c.requires.n_value c.requires.file_value.0 (omega arith) in
+    search rules
+
+pub overflow_add-to : goal.overflow_add-to
+overflow_add-to c =
+    let h = piece_in c.args.file.now c.args.n c.loop-i.i c.requires.n_value c.requires.file_value.0 (omega arith) in
+    search rules
+
+pub slice_bounds-unpack-end : goal.slice_bounds-unpack-end
+slice_bounds-unpack-end c =
+    let h = piece_in c.args.file.now c.args.n c.loop-i.i c.requires.n_value c.requires.file_value.0 (omega arith) in
+    search rules
+
+pub slice_bounds-unpack-count-in-loop-i : goal.slice_bounds-unpack-count-in-loop-i
+slice_bounds-unpack-count-in-loop-i c =
+    let h = piece_in c.args.file.now c.args.n c.loop-i.i c.requires.n_value c.requires.file_value.0 (omega arith) in
+    search rules
+
+pub slice_bounds-unpack-start-in-loop-i : goal.slice_bounds-unpack-start-in-loop-i
+slice_bounds-unpack-start-in-loop-i c =
+    let h = piece_in c.args.file.now c.args.n c.loop-i.i c.requires.n_value c.requires.file_value.0 (omega arith) in
+    search rules
+
+pub unpack-requires : goal.unpack-requires
+unpack-requires c =
+    let h = piece_in c.args.file.now c.args.n c.loop-i.i c.requires.n_value c.requires.file_value.0 (omega arith) in
+    let l = c.loop-i in
+    let n = c.length_in-l in
+    let z = c.packed_size in record { l_in_bounds = omega (arith, z.ensures, cut_length (l.offset + n.result) z.result c.args.file.now (omega (arith, n.ensures.value, z.ensures))); l_in_bounds_2 = omega (arith, n.ensures.value, part_all_length l.at l.marks) }
+
+pub overflow_add-at : goal.overflow_add-at
+overflow_add-at c =
+    let h = piece_in c.args.file.now c.args.n c.loop-i.i c.requires.n_value c.requires.file_value.0 (omega arith) in
+    search rules
+
+pub loop-i-preserved : goal.loop-i-preserved
+loop-i-preserved c =
+    let a = c.args in
+    let f = a.file.now in
+    let l = c.loop-i in
+    let n = c.length_in-l in
+    let s = c.packed_size in
+    let p = c.requires in
+    let h = piece_in f a.n l.i p.n_value p.file_value.0 (omega arith) in
+    let put = c.unpack in
+    let w = rw (marks_cut f l.i l.offset n.result s.result l.invariant.1 n.ensures.value s.ensures) at put.ensures in
+    let m = fill_more (marks_in f) (length_in f) l.i l.at a.marks.now l.marks put.new.out l.invariant.2
+    (λ j b. length_marks f j) (omega (arith, p.file_value.1)) l.invariant.4 w in (
+      omega arith,
+      omega (arith, due_next f l.i, n.ensures.value, s.ensures),
+      omega (arith, sum_next (length_in f) l.i, n.ensures.value),
+      m.0,
+      m.1,
+    )
+
+pub shape_of-marks : goal.shape_of-marks
+shape_of-marks c = c.loop-i.invariant.3
+
+pub returns : goal.returns
+returns c =
+    let l = c.loop-i in
+    let e : l.i ≡ c.args.n = omega arith in
+    rw (← e) l.invariant.4
