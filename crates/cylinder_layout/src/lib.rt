@@ -1,8 +1,7 @@
-// What reading and writing the file of a cylinder share: its lengths, the number of its tracks, and the copying of bytes.
+// What reading and writing the file of a cylinder share: its lengths, and the number of its tracks.
 #![tactic(auto)]
 
-ghost use Rattle.std.specs.Prelude.{◌≡◌, ◌≤◌, length};
-ghost use Rattle.base.specs.Laid.{laid_over};
+ghost use Rattle.std.specs.Prelude.{◌≡◌};
 ghost use Rattle.cylinder.specs.Cylinder.{track_count_right};
 ghost use Rattle.cylinder.specs.Packed.{packed_size};
 
@@ -27,16 +26,4 @@ pub fn track_count_right(n: usize) -> bool
         return false;
     }
     n <= 10
-}
-
-// Copies the bytes over the front of dst, and tells how many they are.
-#[tactic(auto, unfolding(base::specs::Laid::laid_over))]
-pub fn copy(src: &[u8], dst: &mut [u8]) -> usize
-    requires { length src.now ≤ length dst.old }
-    ensures count { result ≡ length src.now }
-    ensures bytes { dst.new ≡ laid_over src.now dst.old }
-{
-    let n = src.len();
-    dst[..n].copy_from_slice(src);
-    n
 }

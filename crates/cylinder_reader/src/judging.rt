@@ -122,6 +122,7 @@ fn judge_table(file: &[u8], n: usize) -> FileJudged
 }
 
 // The file by itself, before anything is filled: 20, 18, 20, 1, 19, 20 and 21.
+#[tactic(auto, using(crate::proofs::Pieces::count_is), unfolding(cylinder::specs::Reading::judge_file))]
 pub(crate) fn judge_file(file: &[u8]) -> FileJudged
     ensures { judged_file result ≡ judge_file file.now }
 {

@@ -28,6 +28,15 @@ fn room_for(file: &[u8], n: usize, tracks: usize, marks: usize, lengths: usize) 
     n <= lengths
 }
 
+// Writes the bytes over the front of out.
+#[tactic(auto, unfolding(base::specs::Laid::laid_over))]
+fn put_bytes(bytes: &[u8], out: &mut [u8])
+    requires { length bytes.now ≤ length out.old }
+    ensures { out.new ≡ laid_over bytes.now out.old }
+{
+    out[..bytes.len()].copy_from_slice(bytes);
+}
+
 // Writes the tracks of the file, one behind the other.
 fn fill_tracks(file: &[u8], n: usize, tracks: &mut [u8])
     requires n_value { n ≡ track_count_in file.now }
@@ -40,7 +49,7 @@ fn fill_tracks(file: &[u8], n: usize, tracks: &mut [u8])
     while i < n {
         let l = table::length_in(file, i);
         let to = offset + l;
-        cylinder_layout::copy(&file[offset..to], &mut tracks[at..]);
+        put_bytes(&file[offset..to], &mut tracks[at..]);
         offset = to + cylinder_layout::packed_size(l);
         at += l;
         i += 1;

@@ -130,7 +130,8 @@ fn put_track(track: &[u8], marks: &[u8], out: &mut [u8])
     requires { (length marks.now ≡ length track.now) × (length track.now ≤ 65535) × (stored_size (length track.now) ≤ length out.old) }
     ensures { out.new ≡ laid_over (track.now ++ packed marks.now) out.old }
 {
-    let n = cylinder_layout::copy(track, out);
+    let n = track.len();
+    out[..n].copy_from_slice(track);
     packing::pack(marks, &mut out[n..]);
 }
 
