@@ -5,7 +5,6 @@ use native.Mathlib.Nat.{add-zero}
 use native.Mathlib.Omega.{arith}
 use mathlib.Core.List.{List, [], ◌∷◌, ◌++◌, append-nil, append_assoc}
 use lib.ListN.{length, take, drop, set}
-use lib.Seq.{take_all}
 use borrow.Rule.Slice.PartMut.{put_mid}
 use Rattle.base.specs.Indexed.{sum_to, join_to, list_to}
 use Rattle.base.specs.Laid.{laid_over}
@@ -16,11 +15,6 @@ use Rattle.base.proofs.Laid.{laid_one, laid_back, over_next, length_over}
 pub over_nothing : (old : List ℕ) → laid_over [] old ≡ old
 unfolding laid_over
 over_nothing old = refl
-
--- A copy of a whole list lies over the front.
-pub copy_over : (src xs old new : List ℕ) → src ≡ xs → new ≡ take (length src) src ++ drop (length src) old → new ≡ laid_over xs old
-unfolding laid_over
-copy_over src xs old new e q = q ∙ rw (take_all (length src) src (omega arith), e)
 
 -- The first n + k elements are the first n and then k more.
 pub list_append : (f : ℕ → ℕ) (n k : ℕ) → list_to f (n + k) ≡ list_to f n ++ list_to (λ j. f (n + j)) k
