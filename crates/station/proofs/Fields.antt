@@ -13,7 +13,7 @@ use Rattle.format.specs.Lent.{lent_for_reading, cells, unmarked}
 use Rattle.format.specs.Opening.{starts_with, plain_opening}
 use Rattle.format.specs.Flag.{condition}
 use Rattle.format.specs.Home.{Home, find_home, judge_home, first_count_place}
-use Rattle.format.specs.Count.{unsettled, count_number, key_length, data_length}
+use Rattle.format.specs.Count.{unsettled, count_number}
 use Rattle.format.specs.Block.{blocks_fit}
 use Rattle.format.specs.Span.{span_rest}
 use Rattle.format.specs.Sector.{opening_length, judge_count}

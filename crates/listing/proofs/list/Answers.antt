@@ -1,5 +1,5 @@
 -- `list` meets its contract: each turn stores the next sector's record, and in the end those of all sectors stand in front of what was there.
-use Rattle.std.proofs.Common.{◌≡◌, ◌∙◌, sym, ap, arith, ℕ, suc, ◌+◌, ◌-◌, ◌≤◌, length}
+use Rattle.std.proofs.Common.{◌≡◌, ◌∙◌, ap, arith, suc, ◌+◌, ◌-◌, length}
 use lib.ListN.{length-set}
 use Rattle.format.specs.Lent.{cells}
 use Rattle.listing.specs.declared.SectorNext.{SectorNext}

@@ -9,7 +9,7 @@ abbrev pub invariant-loop-i : goal.invariant-loop-i
 invariant-loop-i l =
     (l.i ≤ l.n) × (l.n ≤ length l.out)
     × (stored (value (cells l.track l.marks)) (next (cells l.track l.marks)) l.at l.i (l.n - l.i) l.out
-        ≡ stored (value (cells l.track l.marks)) (next (cells l.track l.marks)) l.initial.at 0 l.n l.initial.out)
+    ≡ stored (value (cells l.track l.marks)) (next (cells l.track l.marks)) l.initial.at 0 l.n l.initial.out)
 
 -- What falls with each turn: how many sectors are left.
 abbrev pub decreases-loop-i : goal.decreases-loop-i

@@ -1,10 +1,10 @@
 -- `list_rows` meets its contract: each turn of the loop stores the row of one record.
-use mathlib.Core.Path.{◌≡◌, refl, ap, ◌∙◌}
-use Prim.Native.Nat.{◌-◌, ◌≤◌, ◌<◌}
+use mathlib.Core.Path.{refl, ap, ◌∙◌}
+use Prim.Native.Nat.{◌≤◌, ◌<◌}
 use native.Mathlib.Omega.{arith}
 use mathlib.Core.List.{List}
 use lib.ListN.{length, length-set}
-use Rattle.base.proofs.Filled.{filled, filled_more}
+use Rattle.base.proofs.Filled.{filled_more}
 use Rattle.format.specs.Judged.{Judged, answer_of}
 use Rattle.format.specs.Listing.{Listed, most_sectors, list}
 use Rattle.format.proofs.Track.ListAccepted.{list_long}

@@ -1,17 +1,10 @@
 -- `list_rows` meets its contract: each turn of the loop stores the row of one record.
-use mathlib.Core.Path.{◌≡◌, refl, ap, ◌∙◌}
-use Prim.Native.Nat.{◌-◌, ◌≤◌, ◌<◌}
-use native.Mathlib.Omega.{arith}
-use mathlib.Core.List.{List}
-use lib.ListN.{length, length-set}
-use Rattle.base.proofs.Filled.{filled, filled_more}
-use Rattle.format.specs.Judged.{Judged, answer_of}
-use Rattle.format.specs.Listing.{Listed, most_sectors, list}
-use Rattle.format.proofs.Track.ListAccepted.{list_long}
-use Rattle.listing.specs.Filling.{records_of, as_listed, empty}
-use Rattle.listing.proofs.Listed.{listing}
-use Rattle.rows.specs.Rows.{row_of, rows_of}
-use Rattle.rows.proofs.Rows.{row_at, short_rows, full_rows, length_rows}
+use mathlib.Core.Path.{◌≡◌}
+use Prim.Native.Nat.{◌-◌, ◌≤◌}
+use lib.ListN.{length}
+use Rattle.base.proofs.Filled.{filled}
+use Rattle.format.specs.Listing.{most_sectors, list}
+use Rattle.rows.specs.Rows.{rows_of}
 use Rattle.rows.proofs.list_rows.Given as goal
 
 abbrev pub invariant-loop-i : goal.invariant-loop-i

@@ -1,5 +1,5 @@
 -- `nth_candidate` meets its contract: the reader is stepped over the candidates to the left, and step n gives what is asked.
-use Rattle.std.proofs.Common.{◌≡◌, ◌∙◌, ap, arith, ℕ}
+use Rattle.std.proofs.Common.{◌∙◌, ap, arith, ℕ}
 use Rattle.format.specs.Walk.{step}
 use Rattle.walking.specs.declared.Walk.{Walk}
 use Rattle.walking.proofs.Visits.{reached, reached_none, step_visits, walked_step, walked_place}
@@ -26,8 +26,7 @@ loop-i-preserved c =
     let a = c.args in
     let l = c.loop-i in
     let j = l.invariant in
-    let e = c.step-visit.ensures.1 in
-    (
+    let e = c.step-visit.ensures.1 in (
       omega arith,
       ap (λ (w : Walk). w.track.now) e ∙ j.1,
       ap (λ (w : Walk). w.marks.now) e ∙ j.2,

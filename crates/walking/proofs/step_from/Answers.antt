@@ -1,7 +1,6 @@
 -- `step_from` meets its contract: 1 where the pair is lent out of rule, then the step at the place, and the place behind the candidate fits.
 use mathlib.Core.Path.{sym, ap, ◌∙◌}
 use native.Mathlib.Omega.{arith}
-use borrow.Author.Tests.{not-true, not-false}
 use Rattle.format.specs.Answer.{Answer}
 use Rattle.format.specs.Judged.{refused}
 use Rattle.walking.specs.Walked.{judged_step}

@@ -1,7 +1,6 @@
 -- `wanted_right` meets its contract.
 use mathlib.Core.Path.{◌≡◌, sym, ◌∙◌}
 use mathlib.Core.Bool.{true, false}
-use borrow.Author.Tests.{not-true, not-false}
 use Rattle.format.specs.GapRule.{rule_right, wanted_right}
 use Rattle.encode.specs.Gap.{as_rule}
 use Rattle.writer.proofs.wanted_right.Goals as goal

@@ -1,10 +1,7 @@
 -- `all_clocked` meets its contract: the least of the masked bytes is below none of those passed.
-use Prim.Native.Nat.{ℕ, ◌-◌, ◌≤◌, ◌<◌}
 use native.Mathlib.Omega.{arith}
 use borrow.Author.Tests.{eqb-true, eqb-false}
-use lib.Bits.{bit_and}
 use lib.Dec.{eqb}
-use lib.ListN.{length, get_or}
 use Rattle.base.proofs.Tests.{cases}
 use Rattle.bitcells.proofs.reading.all_clocked.Goals as goal
 

@@ -1,7 +1,6 @@
 -- `from_cells` meets its contract: 1 and 17 before anything is written, then the track and its marks.
 use mathlib.Core.Path.{sym, ◌∙◌}
 use native.Mathlib.Omega.{arith}
-use borrow.Author.Tests.{not-true, not-false}
 use lib.ListN.{length}
 use Rattle.format.proofs.Written.Outcome.{after_refused, after_good}
 use Rattle.bitcells.specs.FromCells.{read_pair}

@@ -1,11 +1,8 @@
 -- `judge_patterns` meets its contract: the first fault is that of what is left.
-use mathlib.Core.Path.{◌≡◌, refl, sym, ◌∙◌}
-use Prim.Native.Nat.{◌-◌, ◌≤◌}
+use mathlib.Core.Path.{refl, sym, ◌∙◌}
 use native.Mathlib.Omega.{arith}
-use borrow.Author.Tests.{not-true, not-false}
-use lib.ListN.{drop}
 use Rattle.pattern.specs.Pattern.{legal_pattern}
-use Rattle.bitcells.specs.Each.{each_pattern, judge_each}
+use Rattle.bitcells.specs.Each.{each_pattern}
 use Rattle.bitcells.proofs.Each.{length_pattern}
 use Rattle.bitcells.proofs.FirstFault.{end}
 use Rattle.bitcells.proofs.Passed.{legal_pass, legal_one, legal_stop}

@@ -1,7 +1,6 @@
 -- `lent_from` meets its contract.
 use mathlib.Core.Path.{sym, ◌∙◌}
 use native.Mathlib.Omega.{arith}
-use borrow.Author.Tests.{not-true, not-false}
 use Rattle.bitcells.specs.FromCells.{lent_from}
 use Rattle.bitcells.proofs.Lent.{lent_most}
 use Rattle.bitcells.proofs.reading.lent_from.Goals as goal

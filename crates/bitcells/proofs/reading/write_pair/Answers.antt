@@ -1,12 +1,12 @@
 -- `write_pair` meets its contract: at each turn the bytes and marks passed are written.
-use mathlib.Core.Path.{◌≡◌, refl, sym, ◌∙◌}
-use Prim.Native.Nat.{◌+◌, ◌-◌, ◌*◌, ◌≤◌, ◌<◌}
+use mathlib.Core.Path.{refl, sym, ◌∙◌}
+use Prim.Native.Nat.{◌+◌, ◌*◌, ◌<◌}
 use native.Mathlib.Omega.{arith}
 use lib.ListN.{length, length-set}
 use Rattle.pattern.specs.Pattern.{data_in, mark_in}
 use Rattle.bitcells.specs.Each.{each_pattern}
 use Rattle.bitcells.proofs.Each.{length_pattern, get_d_pattern}
-use Rattle.base.proofs.Filled.{filled, filled_more, filled_all}
+use Rattle.base.proofs.Filled.{filled_more, filled_all}
 use Rattle.bitcells.proofs.reading.write_pair.Goals as goal
 
 pub loop-i-init : goal.loop-i-init

@@ -1,12 +1,10 @@
 -- `write_pair` meets its contract: at each turn the bytes and marks passed are written.
-use mathlib.Core.Path.{◌≡◌, refl, sym, ◌∙◌}
-use Prim.Native.Nat.{◌+◌, ◌-◌, ◌*◌, ◌≤◌, ◌<◌}
-use native.Mathlib.Omega.{arith}
-use lib.ListN.{length, length-set}
+use mathlib.Core.Path.{◌≡◌}
+use Prim.Native.Nat.{◌-◌, ◌≤◌}
+use lib.ListN.{length}
 use Rattle.pattern.specs.Pattern.{data_in, mark_in}
 use Rattle.bitcells.specs.Each.{each_pattern}
-use Rattle.bitcells.proofs.Each.{length_pattern, get_d_pattern}
-use Rattle.base.proofs.Filled.{filled, filled_more, filled_all}
+use Rattle.base.proofs.Filled.{filled}
 use Rattle.bitcells.proofs.reading.write_pair.Given as goal
 
 -- What holds at each turn: the first i bytes and marks are written.

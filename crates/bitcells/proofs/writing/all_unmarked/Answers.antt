@@ -1,9 +1,7 @@
 -- `all_unmarked` meets its contract: the greatest of the marks is above none of those passed.
-use Prim.Native.Nat.{ℕ, ◌-◌, ◌≤◌, ◌<◌}
 use native.Mathlib.Omega.{arith}
 use borrow.Author.Tests.{eqb-true, eqb-false}
 use lib.Dec.{eqb}
-use lib.ListN.{length, get_or}
 use Rattle.base.proofs.Tests.{cases}
 use Rattle.bitcells.proofs.writing.all_unmarked.Goals as goal
 

@@ -1,10 +1,6 @@
 -- `all_unmarked` meets its contract: the greatest of the marks is above none of those passed.
 use Prim.Native.Nat.{ℕ, ◌-◌, ◌≤◌, ◌<◌}
-use native.Mathlib.Omega.{arith}
-use borrow.Author.Tests.{eqb-true, eqb-false}
-use lib.Dec.{eqb}
 use lib.ListN.{length, get_or}
-use Rattle.base.proofs.Tests.{cases}
 use Rattle.bitcells.proofs.writing.all_unmarked.Given as goal
 
 -- What holds at each turn: no mark before place i is above the greatest.

@@ -1,14 +1,9 @@
 -- `judge_marked` meets its contract: the first fault is that of what is left.
-use mathlib.Core.Path.{◌≡◌, refl, sym, ◌∙◌}
+use mathlib.Core.Path.{◌≡◌}
 use Prim.Native.Nat.{◌-◌, ◌≤◌}
-use native.Mathlib.Omega.{arith}
-use borrow.Author.Tests.{not-true, not-false}
 use lib.ListN.{drop}
 use Rattle.pattern.specs.Pattern.{recordable}
 use Rattle.bitcells.specs.Each.{each_byte, judge_each}
-use Rattle.bitcells.proofs.Each.{length_each}
-use Rattle.bitcells.proofs.FirstFault.{end}
-use Rattle.bitcells.proofs.Passed.{unmarked_pass, recordable_one, recordable_stop}
 use Rattle.bitcells.proofs.writing.judge_marked.Given as goal
 
 -- What holds at each turn: the bytes before place i can be recorded with their marks.

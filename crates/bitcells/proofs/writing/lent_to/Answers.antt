@@ -1,6 +1,5 @@
 -- `lent_to` meets its contract.
 use mathlib.Core.Path.{sym, ◌∙◌}
-use borrow.Author.Tests.{not-true, not-false}
 use Rattle.bitcells.specs.ToCells.{lent_to}
 use Rattle.bitcells.proofs.writing.lent_to.Goals as goal
 

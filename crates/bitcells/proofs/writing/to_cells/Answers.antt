@@ -1,7 +1,6 @@
 -- `to_cells` meets its contract: 1 and 17 before anything is written, then the cell bytes.
 use mathlib.Core.Path.{sym, ◌∙◌}
 use native.Mathlib.Omega.{arith}
-use borrow.Author.Tests.{not-true, not-false}
 use lib.ListN.{length}
 use Rattle.format.proofs.Track.Pairs.{lent_marks}
 use Rattle.bitcells.specs.ToCells.{written_cells}

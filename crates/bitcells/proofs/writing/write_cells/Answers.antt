@@ -1,8 +1,8 @@
 -- `write_cells` meets its contract: at each turn the cell bytes of the bytes passed are written.
 use mathlib.Core.Path.{◌≡◌, refl, sym, ap, ◌∙◌}
-use Prim.Native.Nat.{ℕ, ◌+◌, ◌-◌, ◌*◌, ◌≤◌}
+use Prim.Native.Nat.{ℕ, ◌+◌, ◌*◌}
 use native.Mathlib.Omega.{arith}
-use lib.ListN.{length, set, length-set}
+use lib.ListN.{set, length-set}
 use Rattle.bitcells.specs.ToCells.{written_cells}
 use Rattle.bitcells.proofs.Each.{length_written, get_d_first, get_d_second}
 use Rattle.base.proofs.Filled.{filled, filled_more, filled_all}

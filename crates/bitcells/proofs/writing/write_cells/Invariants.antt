@@ -1,11 +1,9 @@
 -- `write_cells` meets its contract: at each turn the cell bytes of the bytes passed are written.
-use mathlib.Core.Path.{◌≡◌, refl, sym, ap, ◌∙◌}
-use Prim.Native.Nat.{ℕ, ◌+◌, ◌-◌, ◌*◌, ◌≤◌}
-use native.Mathlib.Omega.{arith}
-use lib.ListN.{length, set, length-set}
+use mathlib.Core.Path.{◌≡◌}
+use Prim.Native.Nat.{◌-◌, ◌*◌, ◌≤◌}
+use lib.ListN.{length}
 use Rattle.bitcells.specs.ToCells.{written_cells}
-use Rattle.bitcells.proofs.Each.{length_written, get_d_first, get_d_second}
-use Rattle.base.proofs.Filled.{filled, filled_more, filled_all}
+use Rattle.base.proofs.Filled.{filled}
 use Rattle.bitcells.proofs.writing.write_cells.Given as goal
 
 -- What holds at each turn: the cell bytes of the first i bytes are written.

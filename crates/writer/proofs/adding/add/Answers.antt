@@ -2,7 +2,6 @@
 use mathlib.Core.Path.{refl, sym, ◌∙◌}
 use native.Mathlib.Omega.{arith}
 use lib.ListN.{length}
-use borrow.Author.Tests.{not-true, not-false}
 use Rattle.format.proofs.Written.Outcome.{after_refused}
 use Rattle.encode.specs.Gap.{as_rule}
 use Rattle.writer.proofs.Outcome.{after_same}

@@ -2,7 +2,6 @@
 use mathlib.Core.Path.{sym, ◌∙◌}
 use mathlib.Core.List.{◌∷◌}
 use native.Mathlib.Omega.{arith}
-use borrow.Author.Tests.{not-true, not-false}
 use Rattle.format.proofs.Written.Outcome.{after_refused}
 use Rattle.format.proofs.Track.Pairs.{length_cells}
 use Rattle.sectors.proofs.From.{steps_end}
@@ -51,8 +50,12 @@ add_behind-requires c =
     let m = a.marks.now in
     let r = c.requires.readable_flag.readable in
     let found = c.search_from-found in
-    let q = found.result.place in record { addable = record {
+    let q = found.result.place in record {
+      addable = record {
         flagged = c.requires.readable_flag;
         absent = found_none t m a.start q a.s r (found.ensures.sectors_from r.accepted.sectors (readable_steps t m a.start r)) c.if-found-track.false;
         last_is = λ x xs f. found.ensures.sectors_from_2 x xs f (steps_end t m q _ (found.ensures.sectors_from (x ∷ xs) f) (omega (arith, length_cells t m, c.if-found-track.false)));
-      }; b7_bound = (c.if-b7-gt1.false, sym c.wanted_right.ensures ∙ c.if-not-wanted_right.false); out_len = c.requires.out_len }
+      };
+      b7_bound = (c.if-b7-gt1.false, sym c.wanted_right.ensures ∙ c.if-not-wanted_right.false);
+      out_len = c.requires.out_len;
+    }

@@ -31,6 +31,9 @@ returns c =
     let size = length_written S in
     let low : a.end ≤ length t = omega (arith, c.requires.end_le_to) in
     let room : a.to + length (written_sector S) ≤ length t = omega (arith, c.requires.end_le_to, size) in
-    let filled : two.result ≡ true = two.ensures.answer ∙ gap_fits_lem a.end a.to (length T1) (length M1) c.requires.end_le_to.0 (omega (arith, c.requires.end_le_to, longT)) (omega (arith, c.requires.end_le_to, longM)) in record { bytes = added_bytes a.end a.to (length t) S c.requires.end_le_to.0 room (take a.end t) a.out.now T1 two.new.track three.new.track (length-take-le a.end t low)
-          one.ensures.bytes longT (two.auto.track ∙ longT) (wrote_at two.result _ _ _ _ filled two.ensures.bytes) three.ensures.bytes; marks = added_marks a.end a.to (length t) S c.requires.end_le_to.0 room (take a.end m) a.out_marks.now M1 two.new.marks three.new.marks
-          (length-take-le a.end m (omega (arith, low, long))) one.ensures.marks longM (two.auto.marks ∙ longM) (wrote_at two.result _ _ _ _ filled two.ensures.marks) three.ensures.marks }
+    let filled : two.result ≡ true = two.ensures.answer ∙ gap_fits_lem a.end a.to (length T1) (length M1) c.requires.end_le_to.0 (omega (arith, c.requires.end_le_to, longT)) (omega (arith, c.requires.end_le_to, longM)) in record {
+      bytes = added_bytes a.end a.to (length t) S c.requires.end_le_to.0 room (take a.end t) a.out.now T1 two.new.track three.new.track (length-take-le a.end t low)
+          one.ensures.bytes longT (two.auto.track ∙ longT) (wrote_at two.result _ _ _ _ filled two.ensures.bytes) three.ensures.bytes;
+      marks = added_marks a.end a.to (length t) S c.requires.end_le_to.0 room (take a.end m) a.out_marks.now M1 two.new.marks three.new.marks
+          (length-take-le a.end m (omega (arith, low, long))) one.ensures.marks longM (two.auto.marks ∙ longM) (wrote_at two.result _ _ _ _ filled two.ensures.marks) three.ensures.marks;
+    }

@@ -5,7 +5,6 @@ use mathlib.Core.Bool.{true}
 use mathlib.Core.List.{List, ◌++◌}
 use native.Mathlib.Omega.{arith}
 use lib.ListN.{length}
-use borrow.Author.Tests.{not-true, not-false}
 use Rattle.format.specs.Lent.{bytes_of, marks_of}
 use Rattle.format.specs.Address.{Address}
 use Rattle.format.specs.Blank.{named_by, written_head, blank_sector}

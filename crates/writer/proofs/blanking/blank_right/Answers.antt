@@ -1,7 +1,7 @@
 -- `blank_right` meets its contract: range of the address, flag, the address that the count names, content.
 use mathlib.Core.Path.{◌≡◌, sym, ap, ◌∙◌}
 use mathlib.Core.Bool.{true, false}
-use borrow.Author.Tests.{le-leb, lt-leb, not-true, not-false}
+use borrow.Author.Tests.{le-leb, lt-leb}
 use Rattle.format.specs.Address.{address_right}
 use Rattle.format.specs.Blank.{named_by, blank_right}
 use Rattle.sector.specs.As.{as_address}

@@ -1,6 +1,6 @@
 -- `write_blank` meets its contract: home, and sector 0 with the gap to index behind it.
 use mathlib.Core.Path.{◌≡◌, ◌∙◌}
-use Prim.Native.Nat.{◌+◌, ◌-◌, ◌≤◌}
+use Prim.Native.Nat.{◌+◌, ◌≤◌}
 use mathlib.Core.Bool.{true}
 use native.Mathlib.Omega.{arith}
 use lib.ListN.{length}
@@ -33,6 +33,9 @@ returns c =
     let wrote : one.result ≡ true = one.ensures.answer ∙ both_fit_lem head_length (length a.track.now) (length a.marks.now) (omega (arith, c.requires)) (omega (arith, c.requires)) in
     let longT : length T1 ≡ length a.track.now = one.auto.track in
     let longM : length M1 ≡ length a.track.now = one.auto.marks ∙ c.requires.marks_len in
-    let room : 55 + length (written_sector S) ≤ length a.track.now = omega (arith, c.requires, size) in record { bytes = blank_bytes a.flag (as_address a.own) S (length a.track.now) (length T1) longT room a.track.now T1 two.new.track longT
-          (wrote_over one.result _ _ _ wrote one.ensures.bytes) two.ensures.bytes; marks = blank_marks a.flag (as_address a.own) S (length a.track.now) (length T1) longT room a.marks.now M1 two.new.marks longM
-          (wrote_over one.result _ _ _ wrote one.ensures.marks) two.ensures.marks }
+    let room : 55 + length (written_sector S) ≤ length a.track.now = omega (arith, c.requires, size) in record {
+      bytes = blank_bytes a.flag (as_address a.own) S (length a.track.now) (length T1) longT room a.track.now T1 two.new.track longT
+          (wrote_over one.result _ _ _ wrote one.ensures.bytes) two.ensures.bytes;
+      marks = blank_marks a.flag (as_address a.own) S (length a.track.now) (length T1) longT room a.marks.now M1 two.new.marks longM
+          (wrote_over one.result _ _ _ wrote one.ensures.marks) two.ensures.marks;
+    }

@@ -1,9 +1,7 @@
 -- `end_of_later` meets its contract: the end with all sectors is the end with those from place p on.
-use Prim.Native.Nat.{◌-◌}
 use native.Mathlib.Omega.{arith}
-use lib.ListN.{length}
 use Rattle.encode.specs.Gap.{as_rule}
-use Rattle.writer.proofs.Farthest.{Summing, sum_start, sum_end, sum_onward, sum_lengths, sum_bound, sum_next}
+use Rattle.writer.proofs.Farthest.{sum_start, sum_end, sum_onward, sum_lengths, sum_bound, sum_next}
 use Rattle.writer.proofs.correcting.end_of_later.Goals as goal
 
 pub loop-p-init : goal.loop-p-init

@@ -46,7 +46,8 @@ write_later-requires c =
     let one = c.put_span in
     let z = first_remaining t m a.q a.x c.requires.read_at in
     let r = content-room t m a.q z.sector z.later z.steps a.x c.requires.read_at.is_read rule first.result first.ensures a.key.now a.body.now
-    (length t) to.result to.ensures (c.requires.ys_in_bounds z.sector z.later z.steps) in record { remaining_room = record {
+    (length t) to.result to.ensures (c.requires.ys_in_bounds z.sector z.later z.steps) in record {
+      remaining_room = record {
         remaining = record {
           sectors = z.later;
           steps = later_steps t m a.q z.sector z.later z.steps a.x c.requires.read_at.is_read;
@@ -56,7 +57,9 @@ write_later-requires c =
         behind = (later_remaining t m a.q a.x c.requires.read_at).1;
         right = (wanted_parts rule a.key.now a.body.now c.requires.body_value).0;
         room = r.2;
-      }; out_len = (one.auto.track ∙ long.1, one.auto.marks ∙ long.2) }
+      };
+      out_len = (one.auto.track ∙ long.1, one.auto.marks ∙ long.2);
+    }
 
 pub copy_kept-requires : goal.copy_kept-requires
 copy_kept-requires c =
@@ -84,12 +87,15 @@ returns c =
     let low : a.q ≤ l = omega (arith, c.requires.read_at.inside) in
     let after : (y : Placed) (ys : List Placed) → SectorsFrom t m a.q (y ∷ ys) → RoomFor rule l to.result ys =
     λ y ys f.
-    (content-room t m a.q y ys f a.x c.requires.read_at.is_read rule first.result first.ensures a.key.now a.body.now l to.result to.ensures (c.requires.ys_in_bounds y ys f)).2 in record { bytes = λ y ys f.
+    (content-room t m a.q y ys f a.x c.requires.read_at.is_read rule first.result first.ensures a.key.now a.body.now l to.result to.ensures (c.requires.ys_in_bounds y ys f)).2 in record {
+      bytes = λ y ys f.
           content-bytes t m a.q y ys f a.x c.requires.read_at.is_read rule first.result first.ensures a.key.now a.body.now l to.result to.ensures (c.requires.ys_in_bounds y ys f)
           a.out.now one.new.track two.new.out three.new.out (take a.q t) (omega (arith, low, long))
           (length-take-le a.q t low) three.ensures.bytes one.ensures.bytes
-          (two.ensures.bytes ys (later_steps t m a.q y ys f a.x c.requires.read_at.is_read) (after y ys f)); marks = λ y ys f.
+          (two.ensures.bytes ys (later_steps t m a.q y ys f a.x c.requires.read_at.is_read) (after y ys f));
+      marks = λ y ys f.
           content-marks t m a.q y ys f a.x c.requires.read_at.is_read rule first.result first.ensures a.key.now a.body.now l to.result to.ensures (c.requires.ys_in_bounds y ys f)
           a.out_marks.now one.new.marks two.new.out_marks three.new.out_marks (take a.q m) (omega (arith, low, long))
           (length-take-le a.q m (omega (arith, low, long))) three.ensures.marks one.ensures.marks
-          (two.ensures.marks ys (later_steps t m a.q y ys f a.x c.requires.read_at.is_read) (after y ys f)) }
+          (two.ensures.marks ys (later_steps t m a.q y ys f a.x c.requires.read_at.is_read) (after y ys f));
+    }

@@ -9,7 +9,7 @@ use Rattle.format.specs.Accept.{Placed}
 use Rattle.sectors.specs.From.{SectorsFrom}
 use Rattle.encode.specs.Gap.{as_rule}
 use Rattle.writer.specs.Remaining.{RoomFor}
-use Rattle.writer.proofs.Later.{Writing, writing_now, cut_asks, going_start, going_within, going_end, going_lengths, going_parts, going_onward, going-room, going_next}
+use Rattle.writer.proofs.Later.{writing_now, cut_asks, going_start, going_within, going_end, going_lengths, going_parts, going_onward, going-room, going_next}
 use Rattle.base.proofs.Lists.{cut_is, cut_length}
 use Rattle.writer.proofs.correcting.write_later.Goals as goal
 
