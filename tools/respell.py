@@ -42,7 +42,8 @@ def texts():
 
 
 def is_of_a_function(path):
-    return os.path.basename(path) in OF_A_FUNCTION
+    """Whether the file is a part of one function's proof: crates/NAME/proofs/Answers.antt has laws, as its name says."""
+    return os.path.basename(path) in OF_A_FUNCTION and len(path.split("/")) > 4
 
 
 def read(path):
@@ -78,7 +79,7 @@ def declared(paths):
             m = re.match(rf"\s*(?:pub |unfoldable |abbrev |mutual )*((?:{TOK} )+):(?=\s|$)", line)
             if not m or m[1].split()[0] in ("let", "in", "rw", "open"):
                 continue
-            if not kind and indent > 4:
+            if not kind and indent > 12:
                 continue
             for name in m[1].split():
                 names[name].add({"record": "field", "data": "constructor"}.get(kind, "definition"))

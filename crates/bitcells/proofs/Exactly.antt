@@ -95,16 +95,16 @@ module _ (t m : List ℕ) (n p : ℕ) where
         record {
           inside = g;
           marked = cases (eqb (get_or m p 0) 0) (λ z. false-true (sym v ∙ rw z)) (λ z. let w = eqb-false (get_or m p 0) 0 z in omega (arith, mark_at_lem m (lent_legal t m r) p (omega arith)));
-          other = λ q. false-true (sym v ∙ holds-FF (get_or t p 0) (get_or m p 0) q);
-          earlier = λ i h o. recorded-FF (get_or t i 0) (get_or m i 0) (sym (get_d_each recordable t m i false (omega arith) (omega arith)) ∙ f.2.earlier i (omega arith)) o;
+          other = λ q. false-true (sym v ∙ holds_FF (get_or t p 0) (get_or m p 0) q);
+          earlier = λ i h o. recorded_FF (get_or t i 0) (get_or m i 0) (sym (get_d_each recordable t m i false (omega arith) (omega arith)) ∙ f.2.earlier i (omega arith)) o;
         },
       )
     where
-      holds-FF : (b k : ℕ) → b ≡ 0xFF → recordable b k ≡ true
-      holds-FF b k q = cases (eqb k 0) (λ z. rw z) (λ z. rw (z, eq-eqb b 255 q))
+      holds_FF : (b k : ℕ) → b ≡ 0xFF → recordable b k ≡ true
+      holds_FF b k q = cases (eqb k 0) (λ z. rw z) (λ z. rw (z, eq-eqb b 255 q))
 
-      recorded-FF : (b k : ℕ) → recordable b k ≡ true → k ≡ 1 → b ≡ 0xFF
-      recorded-FF b k h o = eqb-true b 255 (rw (ne_eqb k 0 (λ z. omega arith)) at h)
+      recorded_FF : (b k : ℕ) → recordable b k ≡ true → k ≡ 1 → b ≡ 0xFF
+      recorded_FF b k h o = eqb-true b 255 (rw (ne_eqb k 0 (λ z. omega arith)) at h)
 
   -- and where there is such a byte it is given.
   pub other_to : lent_to t m n ≡ true → FirstOther t m p → to_cells t m n ≡ refused (pattern_wrong p)

@@ -72,21 +72,21 @@ bring_digits (suc k) m y e B cs hm he hy =
     let c : ℕ = e / P in
     let e' : ℕ = e % P in
     let b : ℕ = B / P % 2 in
-    let hP : 2 ^ suc k ≡ P * 2 = pow-suc 2 k in
-    let hPm : P * m ≡ 32768 = half_of (P * m) (sym (swap_two P m) ∙ ap (λ (z : ℕ). z * m) (sym hP) ∙ hm) in
-    let hc : c < 2 = (div-lt_iff_lt-mul (pow_pos k)).1 (subst (λ (z : ℕ). e < z) (hP ∙ mul_comm P 2) he) in
+    let h_p : 2 ^ suc k ≡ P * 2 = pow-suc 2 k in
+    let h_pm : P * m ≡ 32768 = half_of (P * m) (sym (swap_two P m) ∙ ap (λ (z : ℕ). z * m) (sym h_p) ∙ hm) in
+    let hc : c < 2 = (div-lt_iff_lt-mul (pow_pos k)).1 (subst (λ (z : ℕ). e < z) (h_p ∙ mul_comm P 2) he) in
     let he' : e' < P = mod-lt e (pow_pos k) in
     let hb : b < 2 = mod-lt (B / P) (lit< tt) in
     let x : ℕ = bit_xor c b in
     let hx : x < 2 = xor_lt 1 c b hc hb in
     let es : e ≡ c * P + e' = sym (div-add-mod' e P) in
-    let ht : e' * m + y < 32768 = subst (λ (z : ℕ). e' * m + y < z) hPm (digits_lt he' hy) in
-    ap (λ (r : ℕ). remainder (bring_down r b) (digits k B ++ cs)) (top_off e c P e' m y es hPm)
+    let ht : e' * m + y < 32768 = subst (λ (z : ℕ). e' * m + y < z) h_pm (digits_lt he' hy) in
+    ap (λ (r : ℕ). remainder (bring_down r b) (digits k B ++ cs)) (top_off e c P e' m y es h_pm)
     ∙ ap (λ (r : ℕ). remainder r (digits k B ++ cs)) (bring_turn c (e' * m + y) b hc ht hb ∙ double_low e' m y x)
-    ∙ bring_digits k (m * 2) (y * 2 + x) e' B cs (twice_of P m hPm) he' (digits_lt hy hx)
+    ∙ bring_digits k (m * 2) (y * 2 + x) e' B cs (twice_of P m h_pm) he' (digits_lt hy hx)
     ∙ ap (λ (r : ℕ). remainder r cs)
     (regroup y x P (bit_xor e' (B % P))
-    ∙ ap₂ (λ (u v : ℕ). y * u + v) (sym hP)
+    ∙ ap₂ (λ (u v : ℕ). y * u + v) (sym h_p)
     (sym (xor_block k c b e' (B % P) he' (mod-lt B (pow_pos k)))
     ∙ ap₂ bit_xor (sym es) (sym (mod-pow-add B 1 k) ∙ ap (λ (j : ℕ). B % 2 ^ j) (one-add k))))
 

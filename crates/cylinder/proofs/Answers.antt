@@ -16,150 +16,150 @@ use Rattle.cylinder.proofs.Decides.{Decides, decides_le, decides_eq, decides_cou
 
 module _ (c : Cylinder) (room : ℕ) where
   -- The test of the buffer decides whether it takes the file.
-  decides-buffer : Decides (leb (length (cylinder_file c)) room) (length (cylinder_file c) ≤ room) (room < length (cylinder_file c))
-  decides-buffer = decides_le (length (cylinder_file c)) room
+  decides_buffer : Decides (leb (length (cylinder_file c)) room) (length (cylinder_file c) ≤ room) (room < length (cylinder_file c))
+  decides_buffer = decides_le (length (cylinder_file c)) room
 
   -- Every answer of writing says what the text gives for it.
-  write-means : WriteMeans c room (answer_of (write_cylinder c room)).number
+  write_means : WriteMeans c room (answer_of (write_cylinder c room)).number
   unfolding write_cylinder
-  write-means =
+  write_means =
       let m : Judged (List ℕ) → Type 0 = λ j. WriteMeans c room (answer_of j).number in
       decided m (decides_count (track_count c)) header_wrong _ (λ q. q)
       (λ n. decided m (decides_lent c) lent_wrong _ (λ q. (n, q))
-      (λ l. decided m decides-buffer buffer_too_short (good (cylinder_file c)) (λ q. ((n, l), q))
+      (λ l. decided m decides_buffer buffer_too_short (good (cylinder_file c)) (λ q. ((n, l), q))
       (λ b. ((n, l), b))))
 
   -- An answer of writing says what the text gives for its number.
-  write-says : (a : Answer) → answer_of (write_cylinder c room) ≡ a → WriteMeans c room a.number
-  write-says a e = subst (λ (x : Answer). WriteMeans c room x.number) e write-means
+  write_says : (a : Answer) → answer_of (write_cylinder c room) ≡ a → WriteMeans c room a.number
+  write_says a e = subst (λ (x : Answer). WriteMeans c room x.number) e write_means
 
   -- Writing gives 18 exactly where the number of tracks is not 1 to 10.
-  pub write-18 : (answer_of (write_cylinder c room) ≡ header_wrong) ↔ WrongTrackCount c
+  pub write_18 : (answer_of (write_cylinder c room) ≡ header_wrong) ↔ WrongTrackCount c
   unfolding write_cylinder
-  write-18 = (write-says header_wrong, λ q. rw ((decides_count (track_count c)).failed q))
+  write_18 = (write_says header_wrong, λ q. rw ((decides_count (track_count c)).failed q))
 
   -- Writing gives 1 exactly where the number of tracks is right, and an L, the length of a slice or a mark is out of rule.
-  pub write-1 : (answer_of (write_cylinder c room) ≡ lent_wrong) ↔ WrongLent c
+  pub write_1 : (answer_of (write_cylinder c room) ≡ lent_wrong) ↔ WrongLent c
   unfolding write_cylinder
-  write-1 = (write-says lent_wrong, λ q. rw ((decides_count (track_count c)).passed q.0, (decides_lent c).failed q.1))
+  write_1 = (write_says lent_wrong, λ q. rw ((decides_count (track_count c)).passed q.0, (decides_lent c).failed q.1))
 
   -- Writing gives 24 exactly where all that is lent is right and the buffer is shorter than the file.
-  pub write-24 : (answer_of (write_cylinder c room) ≡ buffer_too_short) ↔ ShortBuffer c room
+  pub write_24 : (answer_of (write_cylinder c room) ≡ buffer_too_short) ↔ ShortBuffer c room
   unfolding write_cylinder
-  write-24 = (write-says buffer_too_short, λ q. rw ((decides_count (track_count c)).passed q.0.0, (decides_lent c).passed q.0.1, decides-buffer.failed q.1))
+  write_24 = (write_says buffer_too_short, λ q. rw ((decides_count (track_count c)).passed q.0.0, (decides_lent c).passed q.0.1, decides_buffer.failed q.1))
 
   -- Writing gives 0 exactly where all that is lent is right and the buffer takes the file.
-  pub write-0 : (answer_of (write_cylinder c room) ≡ done) ↔ Writable c room
+  pub write_0 : (answer_of (write_cylinder c room) ≡ done) ↔ Writable c room
   unfolding write_cylinder
-  write-0 = (write-says done, λ q. rw ((decides_count (track_count c)).passed q.0.0, (decides_lent c).passed q.0.1, decides-buffer.passed q.1))
+  write_0 = (write_says done, λ q. rw ((decides_count (track_count c)).passed q.0.0, (decides_lent c).passed q.0.1, decides_buffer.passed q.1))
 
   -- Writing gives any number exactly where the text gives it, and never a number that the text does not give.
-  pub write-exactly : (n : ℕ) → ((answer_of (write_cylinder c room)).number ≡ n) ↔ WriteMeans c room n
-  write-exactly n =
+  pub write_exactly : (n : ℕ) → ((answer_of (write_cylinder c room)).number ≡ n) ↔ WriteMeans c room n
+  write_exactly n =
       let j : Judged (List ℕ) = write_cylinder c room in (
-        λ e. subst (WriteMeans c room) e write-means,
-        row j n done write-0.1 (row j n lent_wrong write-1.1 (row j n header_wrong write-18.1 (row j n buffer_too_short write-24.1 (λ z. absurd z)))),
+        λ e. subst (WriteMeans c room) e write_means,
+        row j n done write_0.1 (row j n lent_wrong write_1.1 (row j n header_wrong write_18.1 (row j n buffer_too_short write_24.1 (λ z. absurd z)))),
       )
 
 module _ (f : List ℕ) (r : Room) where
   -- The first test of the length decides whether the header is whole.
-  decides-head : Decides (leb header_length (length f)) (header_length ≤ length f) (length f < header_length)
-  decides-head = decides_le header_length (length f)
+  decides_head : Decides (leb header_length (length f)) (header_length ≤ length f) (length f < header_length)
+  decides_head = decides_le header_length (length f)
 
   -- The second test of the length decides whether the table is whole.
-  decides-table : Decides (leb (table_end (track_count_in f)) (length f)) (table_end (track_count_in f) ≤ length f) (length f < table_end (track_count_in f))
-  decides-table = decides_le (table_end (track_count_in f)) (length f)
+  decides_table : Decides (leb (table_end (track_count_in f)) (length f)) (table_end (track_count_in f) ≤ length f) (length f < table_end (track_count_in f))
+  decides_table = decides_le (table_end (track_count_in f)) (length f)
 
   -- The third test of the length decides whether it is the one that is due.
-  decides-end : Decides (eqb (length f) (offset_due f (track_count_in f))) (length f ≡ offset_due f (track_count_in f)) (length f ≡ offset_due f (track_count_in f) → ⊥)
-  decides-end = decides_eq (length f) (offset_due f (track_count_in f))
+  decides_end : Decides (eqb (length f) (offset_due f (track_count_in f))) (length f ≡ offset_due f (track_count_in f)) (length f ≡ offset_due f (track_count_in f) → ⊥)
+  decides_end = decides_eq (length f) (offset_due f (track_count_in f))
 
   -- Every answer of reading says what the text gives for it.
-  read-means : ReadMeans f r (answer_of (read_cylinder f r)).number
+  read_means : ReadMeans f r (answer_of (read_cylinder f r)).number
   unfolding read_cylinder judge_file
-  read-means =
+  read_means =
       let k : Unit {0} → Judged Cylinder = λ _. require (room_for f r) buffer_too_short (good (cylinder_in f)) in
       let m : Judged (Unit {0}) → Type 0 = λ j. ReadMeans f r (answer_of (then j k)).number in
-      decided m decides-head file_length_wrong _ (λ q. inl q)
+      decided m decides_head file_length_wrong _ (λ q. inl q)
       (λ h. decided m (decides_header f) header_wrong _ (λ q. (h, q))
-      (λ n. decided m decides-table file_length_wrong _ (λ q. inr (inl ((h, n), q)))
+      (λ n. decided m decides_table file_length_wrong _ (λ q. inr (inl ((h, n), q)))
       (λ t. decided m (decides_lengths (length_in f) (track_count_in f)) lent_wrong _ (λ q. (((h, n), t), q))
       (λ l. decided m (decides_offsets f) offset_wrong _ (λ q. ((((h, n), t), l), q))
-      (λ o. decided m decides-end file_length_wrong _ (λ q. inr (inr (((((h, n), t), l), o), q)))
+      (λ o. decided m decides_end file_length_wrong _ (λ q. inr (inr (((((h, n), t), l), o), q)))
       (λ e. decided m (decides_clear f) spare_bits_set _ (λ q. ((((((h, n), t), l), o), e), q))
       (λ s. decided (λ (j : Judged Cylinder). ReadMeans f r (answer_of j).number) (decides_room f r) buffer_too_short (good (cylinder_in f)) (λ q. (((((((h, n), t), l), o), e), s), q))
       (λ b. (((((((h, n), t), l), o), e), s), b)))))))))
 
   -- An answer of reading says what the text gives for its number.
-  read-says : (a : Answer) → answer_of (read_cylinder f r) ≡ a → ReadMeans f r a.number
-  read-says a e = subst (λ (x : Answer). ReadMeans f r x.number) e read-means
+  read_says : (a : Answer) → answer_of (read_cylinder f r) ≡ a → ReadMeans f r a.number
+  read_says a e = subst (λ (x : Answer). ReadMeans f r x.number) e read_means
 
   -- Reading gives 18 exactly where the header is whole, and the number of tracks is not 1 to 10 or the zero field not zero.
-  pub read-18 : (answer_of (read_cylinder f r) ≡ header_wrong) ↔ WrongHeader f
+  pub read_18 : (answer_of (read_cylinder f r) ≡ header_wrong) ↔ WrongHeader f
   unfolding read_cylinder judge_file
-  read-18 = (read-says header_wrong, λ q. rw (decides-head.passed q.0, (decides_header f).failed q.1))
+  read_18 = (read_says header_wrong, λ q. rw (decides_head.passed q.0, (decides_header f).failed q.1))
 
   -- A file whose table is whole is judged by its Ls and what follows them alone.
-  table-judged : WholeTable f → judge_file f
+  table_judged : WholeTable f → judge_file f
       ≡ require (lengths_right (length_in f) (track_count_in f)) lent_wrong
       (require (offsets_right f) offset_wrong
       (require (eqb (length f) (offset_due f (track_count_in f))) file_length_wrong
       (require (spares_clear f) spare_bits_set
       (good tt))))
   unfolding judge_file
-  table-judged q = rw (decides-head.passed q.0.0, (decides_header f).passed q.0.1, decides-table.passed q.1)
+  table_judged q = rw (decides_head.passed q.0.0, (decides_header f).passed q.0.1, decides_table.passed q.1)
 
   -- Reading gives 1 exactly where the table is whole, and an L in it is out of range.
-  pub read-1 : (answer_of (read_cylinder f r) ≡ lent_wrong) ↔ WrongLength f
+  pub read_1 : (answer_of (read_cylinder f r) ≡ lent_wrong) ↔ WrongLength f
   unfolding read_cylinder
-  read-1 = (read-says lent_wrong, λ q. rw (table-judged q.0, (decides_lengths (length_in f) (track_count_in f)).failed q.1))
+  read_1 = (read_says lent_wrong, λ q. rw (table_judged q.0, (decides_lengths (length_in f) (track_count_in f)).failed q.1))
 
   -- Reading gives 19 exactly where the Ls are right, and an offset is not the one that is due.
-  pub read-19 : (answer_of (read_cylinder f r) ≡ offset_wrong) ↔ WrongOffset f
+  pub read_19 : (answer_of (read_cylinder f r) ≡ offset_wrong) ↔ WrongOffset f
   unfolding read_cylinder
-  read-19 = (read-says offset_wrong, λ q. rw (table-judged q.0.0, (decides_lengths (length_in f) (track_count_in f)).passed q.0.1, (decides_offsets f).failed q.1))
+  read_19 = (read_says offset_wrong, λ q. rw (table_judged q.0.0, (decides_lengths (length_in f) (track_count_in f)).passed q.0.1, (decides_offsets f).failed q.1))
 
   -- A file whose offsets are right is judged by its length and its spare bits alone.
-  offsets-judged : RightOffsets f → judge_file f ≡ require (eqb (length f) (offset_due f (track_count_in f))) file_length_wrong (require (spares_clear f) spare_bits_set (good tt))
-  offsets-judged q = rw (table-judged q.0.0, (decides_lengths (length_in f) (track_count_in f)).passed q.0.1, (decides_offsets f).passed q.1)
+  offsets_judged : RightOffsets f → judge_file f ≡ require (eqb (length f) (offset_due f (track_count_in f))) file_length_wrong (require (spares_clear f) spare_bits_set (good tt))
+  offsets_judged q = rw (table_judged q.0.0, (decides_lengths (length_in f) (track_count_in f)).passed q.0.1, (decides_offsets f).passed q.1)
 
   -- A file of another length than is due is answered by 20.
-  wrong-end : WrongEnd f → answer_of (read_cylinder f r) ≡ file_length_wrong
+  wrong_end : WrongEnd f → answer_of (read_cylinder f r) ≡ file_length_wrong
   unfolding read_cylinder
-  wrong-end q = rw (offsets-judged q.0, decides-end.failed q.1)
+  wrong_end q = rw (offsets_judged q.0, decides_end.failed q.1)
 
   -- Reading gives 20 exactly where the file ends within its header, or, with all before it right, within its table or elsewhere than the table gives.
-  pub read-20 : (answer_of (read_cylinder f r) ≡ file_length_wrong) ↔ (CutHeader f ⊎ (CutTable f ⊎ WrongEnd f))
+  pub read_20 : (answer_of (read_cylinder f r) ≡ file_length_wrong) ↔ (CutHeader f ⊎ (CutTable f ⊎ WrongEnd f))
   unfolding read_cylinder judge_file
-  read-20 = (
-    read-says file_length_wrong,
+  read_20 = (
+    read_says file_length_wrong,
     ⊎_elim
-        (λ q. rw (decides-head.failed q))
+        (λ q. rw (decides_head.failed q))
         (⊎_elim
-        (λ q. rw (decides-head.passed q.0.0, (decides_header f).passed q.0.1, decides-table.failed q.1))
-        wrong-end),
+        (λ q. rw (decides_head.passed q.0.0, (decides_header f).passed q.0.1, decides_table.failed q.1))
+        wrong_end),
   )
 
   -- Reading gives 21 exactly where the length of the file is right, and a spare bit is set.
-  pub read-21 : (answer_of (read_cylinder f r) ≡ spare_bits_set) ↔ WrongSpare f
+  pub read_21 : (answer_of (read_cylinder f r) ≡ spare_bits_set) ↔ WrongSpare f
   unfolding read_cylinder
-  read-21 = (read-says spare_bits_set, λ q. rw (offsets-judged q.0.0, decides-end.passed q.0.1, (decides_clear f).failed q.1))
+  read_21 = (read_says spare_bits_set, λ q. rw (offsets_judged q.0.0, decides_end.passed q.0.1, (decides_clear f).failed q.1))
 
   -- Reading gives 24 exactly where the file is right, and one of the three that are lent for writing is too short.
-  pub read-24 : (answer_of (read_cylinder f r) ≡ buffer_too_short) ↔ ShortRoom f r
+  pub read_24 : (answer_of (read_cylinder f r) ≡ buffer_too_short) ↔ ShortRoom f r
   unfolding read_cylinder
-  read-24 = (read-says buffer_too_short, λ q. rw (offsets-judged q.0.0.0, decides-end.passed q.0.0.1, (decides_clear f).passed q.0.1, (decides_room f r).failed q.1))
+  read_24 = (read_says buffer_too_short, λ q. rw (offsets_judged q.0.0.0, decides_end.passed q.0.0.1, (decides_clear f).passed q.0.1, (decides_room f r).failed q.1))
 
   -- Reading gives 0 exactly where the file is right, and each of the three that are lent for writing is long enough.
-  pub read-0 : (answer_of (read_cylinder f r) ≡ done) ↔ Readable f r
+  pub read_0 : (answer_of (read_cylinder f r) ≡ done) ↔ Readable f r
   unfolding read_cylinder
-  read-0 = (read-says done, λ q. rw (offsets-judged q.0.0.0, decides-end.passed q.0.0.1, (decides_clear f).passed q.0.1, (decides_room f r).passed q.1))
+  read_0 = (read_says done, λ q. rw (offsets_judged q.0.0.0, decides_end.passed q.0.0.1, (decides_clear f).passed q.0.1, (decides_room f r).passed q.1))
 
   -- Reading gives any number exactly where the text gives it, and never a number that the text does not give.
-  pub read-exactly : (n : ℕ) → ((answer_of (read_cylinder f r)).number ≡ n) ↔ ReadMeans f r n
-  read-exactly n =
+  pub read_exactly : (n : ℕ) → ((answer_of (read_cylinder f r)).number ≡ n) ↔ ReadMeans f r n
+  read_exactly n =
       let j : Judged Cylinder = read_cylinder f r in (
-        λ e. subst (ReadMeans f r) e read-means,
-        row j n done read-0.1 (row j n lent_wrong read-1.1 (row j n header_wrong read-18.1 (row j n offset_wrong read-19.1
-            (row j n file_length_wrong read-20.1 (row j n spare_bits_set read-21.1 (row j n buffer_too_short read-24.1 (λ z. absurd z))))))),
+        λ e. subst (ReadMeans f r) e read_means,
+        row j n done read_0.1 (row j n lent_wrong read_1.1 (row j n header_wrong read_18.1 (row j n offset_wrong read_19.1
+            (row j n file_length_wrong read_20.1 (row j n spare_bits_set read_21.1 (row j n buffer_too_short read_24.1 (λ z. absurd z))))))),
       )

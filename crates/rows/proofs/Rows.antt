@@ -5,7 +5,7 @@ use native.Mathlib.Nat.{le_of_suc-le-suc, mod-eq_of_lt}
 use native.Mathlib.Omega.{arith}
 use mathlib.Core.List.{List, [], ◌∷◌, ◌++◌}
 use lib.ListN.{length, drop, get_or, length-map, get_or-append, get_or-map}
-use Rattle.base.proofs.Filled.{filled as filledTo, filled_whole}
+use Rattle.base.proofs.Filled.{filled as filled_to, filled_whole}
 use Rattle.format.specs.Answer.{lent_wrong}
 use Rattle.format.specs.Judged.{Judged, good, refused, answer_of}
 use Rattle.format.specs.Listing.{Listed, most_sectors, list}
@@ -62,7 +62,7 @@ length_rows t m = length-map (records_of (list most_sectors t m)) row_of
 
 -- The rows of i records are filled, which are all of them.
 pub full_rows : (n : ℕ) (t m : List ℕ) (old new : List (List ℕ)) (i : ℕ) → most_sectors ≤ n → i ≡ length (records_of (list most_sectors t m))
-    → new ≡ filledTo (rows_of (list most_sectors t m)) i old → new ≡ filled_rows (list n t m) old
+    → new ≡ filled_to (rows_of (list most_sectors t m)) i old → new ≡ filled_rows (list n t m) old
 unfolding filled_rows
 full_rows n t m old new i l e f =
     filled_whole (rows_of (list most_sectors t m)) old new i (length_rows t m ∙ sym e) f

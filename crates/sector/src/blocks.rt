@@ -109,6 +109,7 @@ fn blocks_fit(last: bool, r: &[u8]) -> bool
 }
 
 // What is at fault in a block that opens: its check is tried before its closing byte.
+#[tactic(auto, unfolding(format::specs::Fault::demand))]
 fn first_wrong(checked: bool, closed: bool) -> Tested
     ensures { as_tested result ≡ demand checked check_wrong (demand closed closing_wrong sound) }
 {

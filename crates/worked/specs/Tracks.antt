@@ -45,8 +45,8 @@ places_in x =
     let end = end_of x in
     let next = end + gap_one (length x.sector.key_bytes) (length x.sector.data_bytes) in
     let key_at = x.place + o + key_offset in
-    let dataAt = x.place + o + data_offset (drop o x.span) in
-    x.place ∷ key_at ∷ dataAt ∷ end ∷ next ∷ []
+    let data_at = x.place + o + data_offset (drop o x.span) in
+    x.place ∷ key_at ∷ data_at ∷ end ∷ next ∷ []
 
 -- Those of all sectors.
 unfoldable pub places : List Placed → List ℕ

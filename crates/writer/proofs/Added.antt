@@ -81,10 +81,10 @@ module _ (rule : GapRule) (t m : List ℕ) (start : ℕ) (r : Readable t m start
 
     module _ (right : wanted_right rule key body ≡ true) where
       -- 13 where a sector carries S.
-      pub add-repeated : (x : Placed) (xs : List Placed) (q : ℕ) → from_number s r.accepted.sectors ≡ x ∷ xs → x.place ≡ q
+      pub add_repeated : (x : Placed) (xs : List Placed) (q : ℕ) → from_number s r.accepted.sectors ≡ x ∷ xs → x.place ≡ q
           → as_pair (add_cells rule c b7 s key body) ≡ refused (sector_repeated q)
       unfolding add_cells judge_absent as_pair
-      add-repeated x xs q e at = rw (judged, le-leb b7 1 bit, right, e, at)
+      add_repeated x xs q e at = rw (judged, le-leb b7 1 bit, right, e, at)
 
       -- What Add writes behind the sectors x and xs, the last of which ends at `end` and has the gap up to `to`.
       module _ (absent : from_number s r.accepted.sectors ≡ []) (x : Placed) (xs : List Placed) (all : r.accepted.sectors ≡ x ∷ xs) (end to : ℕ)
@@ -102,9 +102,9 @@ module _ (rule : GapRule) (t m : List ℕ) (start : ℕ) (r : Readable t m start
         need_is = omega (arith, end_is, to_is)
 
         -- 15 where its block would end later than 13 bytes before index.
-        pub add-short : length c < to + sector_size false (length key) (length body) + 13 → as_pair (add_cells rule c b7 s key body) ≡ refused room_missing
+        pub add_short : length c < to + sector_size false (length key) (length body) + 13 → as_pair (add_cells rule c b7 s key body) ≡ refused room_missing
         unfolding as_pair
-        add-short h =
+        add_short h =
             ap as_pair (add_is ∙ added_room (gap_by rule) c r.accepted.home 0 b7 s key body x xs (omega (arith, end_is)))
             ∙ rw (need_is, lt-leb (to + sector_size false (length key) (length body) + 13) (length c) h)
 

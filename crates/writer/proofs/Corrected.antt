@@ -173,37 +173,37 @@ module _ (t m : List ℕ) (q : ℕ) (x : Placed) (xs : List Placed) (f : Sectors
 
     module _ (l to : ℕ) (g : to ≡ pick s.last l (q + sector_size first (length key) (length body) + gap_by rule (length key) (length body)))
         (room : corrected_end rule q key body x xs ≤ l) where
-      end-made : to ≡ span_end rule l q new (sectors_of xs)
-      end-made =
+      end_made : to ≡ span_end rule l q new (sectors_of xs)
+      end_made =
           let last : s.last ≡ none (sectors_of xs) = ap (λ (z : SectorAt). z.last) e ∙ f.0.last_is ∙ none_sectors xs in
           g ∙ ap (λ (b : Bool). pick b l (q + sector_size first (length key) (length body) + gap_by rule (length key) (length body))) last
           ∙ ap₂ (λ (i j : ℕ). pick (none (sectors_of xs)) l (q + i + j)) (sym size_new) (sym gap_new)
 
       split : (q + length (written_sector new) ≤ to) × (to ≤ l) × RoomFor rule l to xs
       unfolding corrected_end
-      split = room_split rule l q to new xs end-made room
+      split = room_split rule l q to new xs end_made room
 
       -- There is room for the sector and those behind it.
-      pub content-room : (q + sector_size first (length key) (length body) ≤ to) × (to ≤ l) × RoomFor rule l to xs
-      content-room = (omega (arith, split.0, size_new), split.1, split.2)
+      pub content_room : (q + sector_size first (length key) (length body) ≤ to) × (to ≤ l) × RoomFor rule l to xs
+      content_room = (omega (arith, split.0, size_new), split.1, split.2)
 
       module _ (old one two last kept : List ℕ) (ql : q ≤ length old) (qk : length kept ≡ q) (over : last ≡ laid_over kept two) where
         -- The bytes of the new track: the sector, those behind it, and the kept ones over what stood before it.
-        pub content-bytes : one ≡ laid_at q (bytes_of (filled_span (to - q) (sector_from first s.flag s.address.cylinder s.address.head s.number key body))) old
+        pub content_bytes : one ≡ laid_at q (bytes_of (filled_span (to - q) (sector_from first s.flag s.address.cylinder s.address.head s.number key body))) old
             → two ≡ take to one ++ bytes_of (later_cells rule (l - to) xs) → last ≡ kept ++ bytes_of (corrected_cells rule l q key body x xs)
         unfolding corrected_cells
-        content-bytes n z =
+        content_bytes n z =
             over_front q kept old two last _ ql qk over
-            (z ∙ bytes_more rule l q to new (sectors_of xs) end-made split.0 old one _ ql
+            (z ∙ bytes_more rule l q to new (sectors_of xs) end_made split.0 old one _ ql
             (n ∙ ap (λ (w : Sector). laid_at q (bytes_of (filled_span (to - q) w)) old) content_made) refl)
 
         -- And the marks.
-        pub content-marks : one ≡ laid_at q (marks_of (filled_span (to - q) (sector_from first s.flag s.address.cylinder s.address.head s.number key body))) old
+        pub content_marks : one ≡ laid_at q (marks_of (filled_span (to - q) (sector_from first s.flag s.address.cylinder s.address.head s.number key body))) old
             → two ≡ take to one ++ marks_of (later_cells rule (l - to) xs) → last ≡ kept ++ marks_of (corrected_cells rule l q key body x xs)
         unfolding corrected_cells
-        content-marks n z =
+        content_marks n z =
             over_front q kept old two last _ ql qk over
-            (z ∙ marks_more rule l q to new (sectors_of xs) end-made split.0 old one _ ql
+            (z ∙ marks_more rule l q to new (sectors_of xs) end_made split.0 old one _ ql
             (n ∙ ap (λ (w : Sector). laid_at q (marks_of (filled_span (to - q) w)) old) content_made) refl)
 
 -- A front that is kept and cells behind it, as bytes.
@@ -241,14 +241,14 @@ module _ (rule : GapRule) (t m : List ℕ) (start : ℕ) (r : Readable t m start
       need = ap (λ (n : ℕ). n + reach (gap_by rule) (with_content key body x.sector ∷ sectors_of xs) + 13) (length-take-le x.place c (omega arith) ∙ at)
 
       -- 15 where the last block would end later than 13 bytes before index.
-      pub correct-short : length c < corrected_end rule q key body x xs + 13 → as_pair (correct_cells rule c s key body) ≡ refused room_missing
+      pub correct_short : length c < corrected_end rule q key body x xs + 13 → as_pair (correct_cells rule c s key body) ≡ refused room_missing
       unfolding correct_cells rewritten_from written_behind least_gap as_pair
-      correct-short h = rw (judged, right, e, need, lt-leb (corrected_end rule q key body x xs + 13) (length c) h)
+      correct_short h = rw (judged, right, e, need, lt-leb (corrected_end rule q key body x xs + 13) (length c) h)
 
       -- Else the new track.
-      pub correct-done : corrected_end rule q key body x xs + 13 ≤ length c
+      pub correct_done : corrected_end rule q key body x xs + 13 ≤ length c
           → as_pair (correct_cells rule c s key body) ≡ good (pair_of (take q c ++ corrected_cells rule (length c) q key body x xs))
       unfolding correct_cells rewritten_from written_behind least_gap as_pair corrected_cells
-      correct-done h =
+      correct_done h =
           let z : length (take q c) ≡ q = length-take-le q c within in
           rw (judged, right, e, need, le-leb (corrected_end rule q key body x xs + 13) (length c) h, at, z)

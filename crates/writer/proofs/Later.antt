@@ -150,22 +150,22 @@ module _ (rule : GapRule) (t m : List ℕ) (p at : ℕ) (nt nm F G : List ℕ) (
     going_onward = let v = going_step in (v.onward, omega (arith, v.next_inside, whole))
 
     module _ (to : ℕ) (f : to ≡ pick x.last (length t) (at + sector_size false x.key_length x.data_length + gap_by rule x.key_length x.data_length)) where
-      end-made : to ≡ span_end rule (length t) at going_step.x.sector (sectors_of going_step.later)
-      end-made =
+      end_made : to ≡ span_end rule (length t) at going_step.x.sector (sectors_of going_step.later)
+      end_made =
           let v = going_step in
           let size = size_stepped rule t m p false (opens_high p i.behind) i.remaining x v in
           let gap = gap_stepped rule t m p false (opens_high p i.behind) i.remaining x v in
           f ∙ ap (λ (b : Bool). pick b (length t) (at + sector_size false x.key_length x.data_length + gap_by rule x.key_length x.data_length)) (v.last_is ∙ none_sectors v.later)
           ∙ ap₂ (λ (n g : ℕ). pick (none (sectors_of v.later)) (length t) (at + n + g)) (sym size) (sym gap)
 
-      split-room : (at + length (written_sector going_step.x.sector) ≤ to) × (to ≤ length t) × RoomFor rule (length t) to going_step.later
-      split-room =
+      split_room : (at + length (written_sector going_step.x.sector) ≤ to) × (to ≤ length t) × RoomFor rule (length t) to going_step.later
+      split_room =
           let v = going_step in
-          room_split rule (length t) at to v.x.sector v.later end-made (subst (RoomFor rule (length t) at) v.split i.room)
+          room_split rule (length t) at to v.x.sector v.later end_made (subst (RoomFor rule (length t) at) v.split i.room)
 
       -- There is room for the sector.
-      pub going-room : (at + sector_size false x.key_length x.data_length ≤ to) × (to ≤ length t)
-      going-room = let r = split-room in (omega (arith, r.0, size_stepped rule t m p false (opens_high p i.behind) i.remaining x going_step), r.1)
+      pub going_room : (at + sector_size false x.key_length x.data_length ≤ to) × (to ≤ length t)
+      going_room = let r = split_room in (omega (arith, r.0, size_stepped rule t m p false (opens_high p i.behind) i.remaining x going_step), r.1)
 
       -- The sector is written.
       pub going_next : (key body nt' nm' : List ℕ)
@@ -176,7 +176,7 @@ module _ (rule : GapRule) (t m : List ℕ) (p at : ℕ) (nt nm F G : List ℕ) (
           → Going rule t m x.next to nt' nm' F G
       going_next key body nt' nm' k d nt-long nm-long qt qm =
           let v = going_step in
-          let r = split-room in
+          let r = split_room in
           let s : sector_from false x.flag x.address.cylinder x.address.head x.number key body ≡ v.x.sector =
           sector_made t m p false (opens_high p i.behind) i.remaining x v key body (k ∙ v.key_bytes_holds) (d ∙ v.data_bytes_holds) in
           let ss : List Sector = sectors_of v.later in
@@ -187,11 +187,11 @@ module _ (rule : GapRule) (t m : List ℕ) (p at : ℕ) (nt nm F G : List ℕ) (
             behind = v.rest_behind;
             room = r.2;
             bytes =
-                bytes_more rule (length t) at to v.x.sector ss end-made r.0 nt nt' F (omega arith)
+                bytes_more rule (length t) at to v.x.sector ss end_made r.0 nt nt' F (omega arith)
                 (qt ∙ ap (λ (z : Sector). laid_at at (bytes_of (filled_span (to - at) z)) nt) s)
                 (ap (λ (xs : List Placed). take at nt ++ bytes_of (later_cells rule (length t - at) xs)) (sym v.split) ∙ i.bytes);
             marks =
-                marks_more rule (length t) at to v.x.sector ss end-made r.0 nm nm' G (omega arith)
+                marks_more rule (length t) at to v.x.sector ss end_made r.0 nm nm' G (omega arith)
                 (qm ∙ ap (λ (z : Sector). laid_at at (marks_of (filled_span (to - at) z)) nm) s)
                 (ap (λ (xs : List Placed). take at nm ++ marks_of (later_cells rule (length t - at) xs)) (sym v.split) ∙ i.marks);
           }

@@ -162,9 +162,9 @@ module _ (gap : ℕ → ℕ → ℕ) (least : (k d : ℕ) → 21 ≤ gap k d) (x
   copied_now : take (end_of last) (xs ++ joined spans_now) ≡ take (end_of last) c
   copied_now =
       let front : List ℕ = take (end_of last) c in
-      let gapBytes : List ℕ = replicate (gap_after gap last.sector) 0xFF in
+      let gap_bytes : List ℕ = replicate (gap_after gap last.sector) 0xFF in
       let rest : List ℕ = joined (w ∷ []) in
-      ap (take (end_of last)) (whole_now ∙ append_assoc front gapBytes rest) ∙ take_at front (gapBytes ++ rest) (end_of last) (length-take-le (end_of last) c end_inside)
+      ap (take (end_of last)) (whole_now ∙ append_assoc front gap_bytes rest) ∙ take_at front (gap_bytes ++ rest) (end_of last) (length-take-le (end_of last) c end_inside)
 
   -- The blocks of the old sectors end where they ended, that of the new one as it is written.
   ends_now : map end_of (placed_from p spans_now ((o ∷ os) ++ new ∷ [])) ≡ map end_of a.sectors ++ add_end gap a.sectors key body ∷ []

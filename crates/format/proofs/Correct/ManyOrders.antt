@@ -16,7 +16,7 @@ use Rattle.format.specs.Together.{Correction, replaced_by, corrected}
 use Rattle.format.proofs.Base.Judged.{good_inj, then_good}
 use Rattle.base.proofs.Tests.{cases, false-true, or_swap}
 use Rattle.format.proofs.Correct.Replaced.{Bytes, named, named_number, named_apart, replaced_number, replaced_one, replaced_other}
-use Rattle.format.proofs.Correct.Relaid.{relaid, relaid-again}
+use Rattle.format.proofs.Correct.Relaid.{relaid, relaid_again}
 use Rattle.format.proofs.Track.AcceptedSpans.{Track, accepted_track}
 use Rattle.format.proofs.Correct.Corrected.{Done, corrected_done, done_track}
 use Rattle.format.proofs.Correct.Orders.{correct_accepted}
@@ -146,7 +146,7 @@ module _ (rule : GapRule) where
       let ks : List (List ℕ) = relaid gap (named x) gs one in
       let u : Track head h ks one = done_track rule head h gs ss t x k.0 b.0 r in
       let again : relaid gap (named_any xs) ks (map (with_own xs) one) ≡ relaid gap (named_any (x ∷ xs)) gs (map (with_own xs) one) =
-      relaid-again gap (named_any xs) (with_own xs) (λ s. any_number xs (with_own xs s) s (own_number xs s)) (own_other xs)
+      relaid_again gap (named_any xs) (with_own xs) (λ s. any_number xs (with_own xs s) s (own_number xs s)) (own_other xs)
       (named x) (λ s. named_number x (with_own xs s) s (own_number xs s)) gs one r.enough in
       ap (λ (zs : List (List ℕ)). head ++ joined zs) (ap (relaid gap (named_any (x ∷ xs)) gs) (sym (map_own x xs v.0 ss)) ∙ sym again)
       ∙ in_turn_spans head h xs v.1 b.1 ks one u d (ap (λ (z : List ℕ). in_turn rule z xs) r.becomes ∙ k.2)

@@ -101,39 +101,39 @@ module _ (gap : ℕ → ℕ → ℕ) where
 
     module _ (before : Sector → Bool) (stays : (s : Sector) → before (f s) ≡ before s) where
       -- Writing afresh from the first sector of a kind on and then, with the sectors changed, from the first that is hit, is writing afresh from the left one of the two.
-      pub relaid-again : (gs : List (List ℕ)) (ss : List Sector) → room before gs ss ≡ true
+      pub relaid_again : (gs : List (List ℕ)) (ss : List Sector) → room before gs ss ≡ true
           → relaid hit (relaid before gs ss) (map f ss) ≡ relaid (λ s. before s || hit s) gs (map f ss)
       unfolding relaid room
-      relaid-again [] ss h = refl
-      relaid-again (g ∷ gs) [] h = refl
-      relaid-again (g ∷ gs) (s ∷ ss) h =
+      relaid_again [] ss h = refl
+      relaid_again (g ∷ gs) [] h = refl
+      relaid_again (g ∷ gs) (s ∷ ss) h =
           let n : ℕ = length (joined (g ∷ gs)) in
           cases (before s)
           (λ d. rw (stays s, d) (relaid_written n (s ∷ ss) (omega (arith, leb-true (reach gap (s ∷ ss) + 13) n (rw d at h)))))
           (λ d. cases (hit s)
           (λ e. rw (stays s, d, keeps s, e) (ap (λ (k : ℕ). written_spans gap k (map f (s ∷ ss))) (length_kept before g gs ss (rw d at h))))
-          (λ e. rw (stays s, d, keeps s, e) (ap (λ (ks : List (List ℕ)). g ∷ ks) (relaid-again gs ss (rw d at h)))))
+          (λ e. rw (stays s, d, keeps s, e) (ap (λ (ks : List (List ℕ)). g ∷ ks) (relaid_again gs ss (rw d at h)))))
 
       -- The second writing has room exactly when that one has.
-      room-again : (gs : List (List ℕ)) (ss : List Sector) → room before gs ss ≡ true → any_hit hit ss ≡ true
+      room_again : (gs : List (List ℕ)) (ss : List Sector) → room before gs ss ≡ true → any_hit hit ss ≡ true
           → room hit (relaid before gs ss) (map f ss) ≡ room (λ s. before s || hit s) gs (map f ss)
       unfolding relaid room any_hit
-      room-again [] ss h p = refl
-      room-again (g ∷ gs) [] h p = refl
-      room-again (g ∷ gs) (s ∷ ss) h p =
+      room_again [] ss h p = refl
+      room_again (g ∷ gs) [] h p = refl
+      room_again (g ∷ gs) (s ∷ ss) h p =
           let n : ℕ = length (joined (g ∷ gs)) in
           cases (before s)
           (λ d. rw (stays s, d) (room_written n s ss (omega (arith, leb-true (reach gap (s ∷ ss) + 13) n (rw d at h))) p))
           (λ d. cases (hit s)
           (λ e. rw (stays s, d, keeps s, e) (ap (leb (reach gap (map f (s ∷ ss)) + 13)) (length_kept before g gs ss (rw d at h))))
-          (λ e. rw (stays s, d, keeps s, e) (room-again gs ss (rw d at h) (rw e at p))))
+          (λ e. rw (stays s, d, keeps s, e) (room_again gs ss (rw d at h) (rw e at p))))
 
   module _ (a b : Correction) (gs : List (List ℕ)) (ss : List Sector) (h : room (named a) gs (map (replaced_by a) ss) ≡ true) where
     -- Two corrections, one after the other, write afresh from the left one of their sectors.
     pub relaid_relaid : relaid (named b) (relaid (named a) gs (map (replaced_by a) ss)) (map (replaced_by b) (map (replaced_by a) ss))
         ≡ relaid (named_either a b) gs (map (replaced_by b) (map (replaced_by a) ss))
     unfolding named_either
-    relaid_relaid = relaid-again (named b) (replaced_by b) (replaced_named b b) (replaced_other b) (named a) (replaced_named b a) gs (map (replaced_by a) ss) h
+    relaid_relaid = relaid_again (named b) (replaced_by b) (replaced_named b b) (replaced_other b) (named a) (replaced_named b a) gs (map (replaced_by a) ss) h
 
     -- The second of them has room exactly when that has.
     pub room_relaid : any_hit (named b) ss ≡ true
@@ -141,4 +141,4 @@ module _ (gap : ℕ → ℕ → ℕ) where
         ≡ room (named_either a b) gs (map (replaced_by b) (map (replaced_by a) ss))
     unfolding named_either
     room_relaid p =
-        room-again (named b) (replaced_by b) (replaced_named b b) (replaced_other b) (named a) (replaced_named b a) gs (map (replaced_by a) ss) h (any_replaced a b ss ∙ p)
+        room_again (named b) (replaced_by b) (replaced_named b b) (replaced_other b) (named a) (replaced_named b a) gs (map (replaced_by a) ss) h (any_replaced a b ss ∙ p)

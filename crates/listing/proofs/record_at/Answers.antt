@@ -7,8 +7,8 @@ use Rattle.listing.specs.Filling.{as_sector}
 use Rattle.listing.proofs.record_at.Goals as goal
 
 -- The record of what is come to, with the gap g.
-abbrev recordWith : ℕ → SectorAt → SectorNext
-recordWith g v =
+abbrev record_with : ℕ → SectorAt → SectorNext
+record_with g v =
     record {
       sector = record {
         flag = v.flag;
@@ -23,8 +23,8 @@ recordWith g v =
       next = v.next;
     }
 
-same-record : (g : ℕ) (v w : SectorAt) → g ≡ v.next - v.end → v ≡ w → recordWith g v ≡ record { sector = as_sector w; next = w.next }
-same-record g v w e f = ap (λ (k : ℕ). recordWith k v) e ∙ ap {B = SectorNext} (λ (u : SectorAt). record { sector = as_sector u; next = u.next }) f
+same_record : (g : ℕ) (v w : SectorAt) → g ≡ v.next - v.end → v ≡ w → record_with g v ≡ record { sector = as_sector w; next = w.next }
+same_record g v w e f = ap (λ (k : ℕ). record_with k v) e ∙ ap {B = SectorNext} (λ (u : SectorAt). record { sector = as_sector u; next = u.next }) f
 
 pub returns : goal.returns
-returns c = same-record _ (as_sector_at c.sector_at-s.result) _ c.bytes_between.ensures c.sector_at-s.ensures
+returns c = same_record _ (as_sector_at c.sector_at-s.result) _ c.bytes_between.ensures c.sector_at-s.ensures

@@ -33,8 +33,8 @@ returns c =
     let wrote : one.result ≡ true = one.ensures.answer ∙ sector_fits_lem S _ _ n size (omega (arith, c.requires)) (omega (arith, c.requires)) (omega (arith, c.requires, part_all_length a.p T)) (omega (arith, c.requires, part_all_length a.p M)) in
     let T1 : List ℕ = put_mid a.p (length T - a.p) T one.new.track in
     let M1 : List ℕ = put_mid a.p (length M - a.p) M one.new.marks in
-    let laidT : T1 ≡ laid_at a.p (bytes_of (written_sector S)) T = wrote_back one.result a.p (bytes_of (written_sector S)) T one.new.track wrote one.ensures.bytes in
-    let laidM : M1 ≡ laid_at a.p (marks_of (written_sector S)) M = wrote_back one.result a.p (marks_of (written_sector S)) M one.new.marks wrote one.ensures.marks in
-    let longT : length T1 ≡ length T = ap length laidT ∙ length_laid a.p (bytes_of (written_sector S)) T (omega (arith, c.requires, size, length_bytes (written_sector S), c.sector_size-n.ensures)) in
-    let longM : length M1 ≡ length M = ap length laidM ∙ length_laid a.p (marks_of (written_sector S)) M (omega (arith, c.requires, size, length_marks (written_sector S), c.sector_size-n.ensures)) in
-    let filled : two.result ≡ true = two.ensures.answer ∙ gap_fits_lem (a.p + n) a.to (length T1) (length M1) (omega (arith, c.requires, c.sector_size-n.ensures)) (omega (arith, c.requires, longT)) (omega (arith, c.requires, longM)) in record { bytes = span_bytes a.p a.to n S size T T1 two.new.track (omega (arith, c.requires)) laidT (wrote_at two.result _ _ _ _ filled two.ensures.bytes); marks = span_marks a.p a.to n S size M M1 two.new.marks (omega (arith, c.requires)) laidM (wrote_at two.result _ _ _ _ filled two.ensures.marks) }
+    let laid_t : T1 ≡ laid_at a.p (bytes_of (written_sector S)) T = wrote_back one.result a.p (bytes_of (written_sector S)) T one.new.track wrote one.ensures.bytes in
+    let laid_m : M1 ≡ laid_at a.p (marks_of (written_sector S)) M = wrote_back one.result a.p (marks_of (written_sector S)) M one.new.marks wrote one.ensures.marks in
+    let long_t : length T1 ≡ length T = ap length laid_t ∙ length_laid a.p (bytes_of (written_sector S)) T (omega (arith, c.requires, size, length_bytes (written_sector S), c.sector_size-n.ensures)) in
+    let long_m : length M1 ≡ length M = ap length laid_m ∙ length_laid a.p (marks_of (written_sector S)) M (omega (arith, c.requires, size, length_marks (written_sector S), c.sector_size-n.ensures)) in
+    let filled : two.result ≡ true = two.ensures.answer ∙ gap_fits_lem (a.p + n) a.to (length T1) (length M1) (omega (arith, c.requires, c.sector_size-n.ensures)) (omega (arith, c.requires, long_t)) (omega (arith, c.requires, long_m)) in record { bytes = span_bytes a.p a.to n S size T T1 two.new.track (omega (arith, c.requires)) laid_t (wrote_at two.result _ _ _ _ filled two.ensures.bytes); marks = span_marks a.p a.to n S size M M1 two.new.marks (omega (arith, c.requires)) laid_m (wrote_at two.result _ _ _ _ filled two.ensures.marks) }

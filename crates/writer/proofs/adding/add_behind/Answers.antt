@@ -19,7 +19,7 @@ use Rattle.format.proofs.Written.Outcome.{after_refused, after_good}
 use Rattle.writer.proofs.Outcome.{room_done, room_short}
 use Rattle.writer.proofs.Filled.{wanted_bounds, size_most}
 use Rattle.writer.proofs.Corrected.{readable_remaining, readable_lengths, kept_bytes, kept_marks}
-use Rattle.writer.proofs.Added.{last_read, added_made, add-short, add_done}
+use Rattle.writer.proofs.Added.{last_read, added_made, add_short, add_done}
 use Rattle.writer.proofs.adding.add_behind.Goals as goal
 
 pub overflow_cast-kl : goal.overflow_cast-kl
@@ -170,7 +170,7 @@ returns-else-room-eq0 c =
     let judged = c.judge_room-room in
     let room = room_short judged.result (to + size.result) (length t) judged.ensures c.if-room-eq0.false in
     after_refused _ _ _ a.out.now a.out_marks.now
-    (add-short rule t m a.start r a.b7 a.s a.key.now a.body.now c.requires.b7_bound.0 c.requires.b7_bound.1 c.requires.addable.absent v.x v.xs v.all end to
+    (add_short rule t m a.start r a.b7 a.s a.key.now a.body.now c.requires.b7_bound.0 c.requires.b7_bound.1 c.requires.addable.absent v.x v.xs v.all end to
     v.end_is (ap (λ (n : ℕ). end + n) (gap.ensures ∙ v.gap_is)) (omega (arith, v.end_inside, u.cells_length))
     (omega (arith, room.0, size.ensures, u.cells_length)))
     room.1

@@ -7,7 +7,7 @@ use Rattle.format.proofs.Track.Pairs.{length_cells}
 use Rattle.sectors.proofs.From.{steps_end}
 use Rattle.encode.specs.Gap.{as_rule}
 use Rattle.writer.proofs.Corrected.{readable_steps, found_at, found_none}
-use Rattle.writer.proofs.Added.{add_overflow, add_wanted, add-repeated}
+use Rattle.writer.proofs.Added.{add_overflow, add_wanted, add_repeated}
 use Rattle.writer.proofs.adding.add_on.Goals as goal
 
 pub returns-then-b7-gt1 : goal.returns-then-b7-gt1
@@ -40,7 +40,7 @@ returns-then-found-track c =
     let q = found.result.place in
     let z = found_at t m a.start q a.s r (found.ensures.sectors_from r.accepted.sectors (readable_steps t m a.start r)) c.if-found-track.true in
     after_refused _ _ _ a.out.now a.out_marks.now
-    (add-repeated rule t m a.start r a.b7 a.s a.key.now a.body.now c.if-b7-gt1.false (sym c.wanted_right.ensures ∙ c.if-not-wanted_right.false) z.sector z.later q z.split z.place_is)
+    (add_repeated rule t m a.start r a.b7 a.s a.key.now a.body.now c.if-b7-gt1.false (sym c.wanted_right.ensures ∙ c.if-not-wanted_right.false) z.sector z.later q z.split z.place_is)
     c.sector_repeated.ensures
 
 pub add_behind-requires : goal.add_behind-requires

@@ -26,14 +26,14 @@ returns c =
     let S : Sector = sector_from false a.flag a.a.cylinder a.a.head a.s a.key.now a.body.now in
     let T1 = one.new.out in
     let M1 = one.new.out_marks in
-    let longT : length T1 ≡ length t = one.auto.out ∙ long.1 in
-    let longM : length M1 ≡ length t = one.auto.out_marks ∙ long.2 in
+    let long_t : length T1 ≡ length t = one.auto.out ∙ long.1 in
+    let long_m : length M1 ≡ length t = one.auto.out_marks ∙ long.2 in
     let size = length_written S in
     let low : a.end ≤ length t = omega (arith, c.requires.end_le_to) in
     let room : a.to + length (written_sector S) ≤ length t = omega (arith, c.requires.end_le_to, size) in
-    let filled : two.result ≡ true = two.ensures.answer ∙ gap_fits_lem a.end a.to (length T1) (length M1) c.requires.end_le_to.0 (omega (arith, c.requires.end_le_to, longT)) (omega (arith, c.requires.end_le_to, longM)) in record {
+    let filled : two.result ≡ true = two.ensures.answer ∙ gap_fits_lem a.end a.to (length T1) (length M1) c.requires.end_le_to.0 (omega (arith, c.requires.end_le_to, long_t)) (omega (arith, c.requires.end_le_to, long_m)) in record {
       bytes = added_bytes a.end a.to (length t) S c.requires.end_le_to.0 room (take a.end t) a.out.now T1 two.new.track three.new.track (length-take-le a.end t low)
-          one.ensures.bytes longT (two.auto.track ∙ longT) (wrote_at two.result _ _ _ _ filled two.ensures.bytes) three.ensures.bytes;
+          one.ensures.bytes long_t (two.auto.track ∙ long_t) (wrote_at two.result _ _ _ _ filled two.ensures.bytes) three.ensures.bytes;
       marks = added_marks a.end a.to (length t) S c.requires.end_le_to.0 room (take a.end m) a.out_marks.now M1 two.new.marks three.new.marks
-          (length-take-le a.end m (omega (arith, low, long))) one.ensures.marks longM (two.auto.marks ∙ longM) (wrote_at two.result _ _ _ _ filled two.ensures.marks) three.ensures.marks;
+          (length-take-le a.end m (omega (arith, low, long))) one.ensures.marks long_m (two.auto.marks ∙ long_m) (wrote_at two.result _ _ _ _ filled two.ensures.marks) three.ensures.marks;
     }

@@ -31,11 +31,11 @@ returns c =
     let M1 = one.new.marks in
     let size = length_written S in
     let wrote : one.result ≡ true = one.ensures.answer ∙ both_fit_lem head_length (length a.track.now) (length a.marks.now) (omega (arith, c.requires)) (omega (arith, c.requires)) in
-    let longT : length T1 ≡ length a.track.now = one.auto.track in
-    let longM : length M1 ≡ length a.track.now = one.auto.marks ∙ c.requires.marks_len in
+    let long_t : length T1 ≡ length a.track.now = one.auto.track in
+    let long_m : length M1 ≡ length a.track.now = one.auto.marks ∙ c.requires.marks_len in
     let room : 55 + length (written_sector S) ≤ length a.track.now = omega (arith, c.requires, size) in record {
-      bytes = blank_bytes a.flag (as_address a.own) S (length a.track.now) (length T1) longT room a.track.now T1 two.new.track longT
+      bytes = blank_bytes a.flag (as_address a.own) S (length a.track.now) (length T1) long_t room a.track.now T1 two.new.track long_t
           (wrote_over one.result _ _ _ wrote one.ensures.bytes) two.ensures.bytes;
-      marks = blank_marks a.flag (as_address a.own) S (length a.track.now) (length T1) longT room a.marks.now M1 two.new.marks longM
+      marks = blank_marks a.flag (as_address a.own) S (length a.track.now) (length T1) long_t room a.marks.now M1 two.new.marks long_m
           (wrote_over one.result _ _ _ wrote one.ensures.marks) two.ensures.marks;
     }

@@ -14,7 +14,7 @@ use Rattle.writer.specs.Remaining.{corrected_end, corrected_cells}
 use Rattle.format.proofs.Written.Outcome.{after_refused, after_good}
 use Rattle.format.proofs.Track.Pairs.{pair_of}
 use Rattle.writer.proofs.Outcome.{room_done, room_short}
-use Rattle.writer.proofs.Corrected.{readable_steps, readable_remaining, readable_lengths, found_read, found_at, found_none, kept_bytes, kept_marks, correct_wanted, correct_missing, correct-short, correct-done}
+use Rattle.writer.proofs.Corrected.{readable_steps, readable_remaining, readable_lengths, found_read, found_at, found_none, kept_bytes, kept_marks, correct_wanted, correct_missing, correct_short, correct_done}
 use Rattle.writer.proofs.correcting.correct_on.Goals as goal
 
 pub returns-then-not-wanted_right : goal.returns-then-not-wanted_right
@@ -85,7 +85,7 @@ returns-then-a-eq0 c =
     let W : ℕ → List ℕ = λ l. corrected_cells rule l q a.key.now a.body.now z.sector z.later in
     let bytes : unmarked t ≡ true = unmarked_below t (λ i. omega (arith, c.type_inv.track i)) in
     after_good _ _ (pair_of (take q (cells t m) ++ W (length (cells t m)))) a.out.now a.out_marks.now wrote.new.out wrote.new.out_marks
-    (correct-done rule t m a.start r a.s a.key.now a.body.now (sym c.wanted_right.ensures ∙ c.if-not-wanted_right.false)
+    (correct_done rule t m a.start r a.s a.key.now a.body.now (sym c.wanted_right.ensures ∙ c.if-not-wanted_right.false)
     z.sector z.later z.split q z.place_is (omega (arith, c.if-track-sought.false, u.cells_length)) (omega (arith, fits.0, end, u.cells_length)))
     fits.1
     (kept_bytes q t m (W (length t)) (W (length (cells t m))) wrote.new.out k.1 bytes (ap W (sym u.cells_length)) (wrote.ensures.bytes z.sector z.later z.steps))
@@ -107,6 +107,6 @@ returns-else-a-eq0 c =
     let judged = c.judge_room-a in
     let fits = room_short judged.result ended.result (length t) judged.ensures c.if-a-eq0.false in
     after_refused _ _ _ a.out.now a.out_marks.now
-    (correct-short rule t m a.start r a.s a.key.now a.body.now (sym c.wanted_right.ensures ∙ c.if-not-wanted_right.false)
+    (correct_short rule t m a.start r a.s a.key.now a.body.now (sym c.wanted_right.ensures ∙ c.if-not-wanted_right.false)
     z.sector z.later z.split q z.place_is (omega (arith, c.if-track-sought.false, u.cells_length)) (omega (arith, fits.0, end, u.cells_length)))
     fits.1

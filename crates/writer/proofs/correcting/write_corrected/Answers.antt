@@ -11,7 +11,7 @@ use Rattle.encode.specs.Gap.{as_rule}
 use Rattle.writer.specs.Remaining.{RoomFor}
 use Rattle.format.proofs.Written.Gap.{wanted_parts}
 use Rattle.writer.proofs.Filled.{wanted_bounds}
-use Rattle.writer.proofs.Corrected.{first_remaining, later_remaining, later_steps, content-room, content-bytes, content-marks}
+use Rattle.writer.proofs.Corrected.{first_remaining, later_remaining, later_steps, content_room, content_bytes, content_marks}
 use Rattle.writer.proofs.correcting.write_corrected.Goals as goal
 
 pub span_end-to-requires : goal.span_end-to-requires
@@ -30,7 +30,7 @@ put_span-requires c =
     let first = c.opens_first-first in
     let to = c.span_end-to in
     let z = first_remaining t m a.q a.x c.requires.read_at in
-    let r = content-room t m a.q z.sector z.later z.steps a.x c.requires.read_at.is_read rule first.result first.ensures a.key.now a.body.now
+    let r = content_room t m a.q z.sector z.later z.steps a.x c.requires.read_at.is_read rule first.result first.ensures a.key.now a.body.now
     (length t) to.result to.ensures (c.requires.ys_in_bounds z.sector z.later z.steps) in
     record { key_len_bound = wanted_bounds rule a.key.now a.body.now c.requires.body_value; body_bound = r.0; to_in_bounds = (omega (arith, r.1, long), omega (arith, r.1, long)) }
 
@@ -45,7 +45,7 @@ write_later-requires c =
     let to = c.span_end-to in
     let one = c.put_span in
     let z = first_remaining t m a.q a.x c.requires.read_at in
-    let r = content-room t m a.q z.sector z.later z.steps a.x c.requires.read_at.is_read rule first.result first.ensures a.key.now a.body.now
+    let r = content_room t m a.q z.sector z.later z.steps a.x c.requires.read_at.is_read rule first.result first.ensures a.key.now a.body.now
     (length t) to.result to.ensures (c.requires.ys_in_bounds z.sector z.later z.steps) in record {
       remaining_room = record {
         remaining = record {
@@ -67,9 +67,9 @@ copy_kept-requires c =
     let low = c.requires.read_at.inside in
     let one = c.put_span in
     let two = c.write_later in
-    let longT = two.auto.out ∙ one.auto.track ∙ long.1 in
-    let longM = two.auto.out_marks ∙ one.auto.marks ∙ long.2 in
-    record { n_in_bounds = (omega (arith, low), omega (arith, low, long)); n_in_bounds_2 = (omega (arith, low, longT), omega (arith, low, longM)) }
+    let long_t = two.auto.out ∙ one.auto.track ∙ long.1 in
+    let long_m = two.auto.out_marks ∙ one.auto.marks ∙ long.2 in
+    record { n_in_bounds = (omega (arith, low), omega (arith, low, long)); n_in_bounds_2 = (omega (arith, low, long_t), omega (arith, low, long_m)) }
 
 pub returns : goal.returns
 returns c =
@@ -87,14 +87,14 @@ returns c =
     let low : a.q ≤ l = omega (arith, c.requires.read_at.inside) in
     let after : (y : Placed) (ys : List Placed) → SectorsFrom t m a.q (y ∷ ys) → RoomFor rule l to.result ys =
     λ y ys f.
-    (content-room t m a.q y ys f a.x c.requires.read_at.is_read rule first.result first.ensures a.key.now a.body.now l to.result to.ensures (c.requires.ys_in_bounds y ys f)).2 in record {
+    (content_room t m a.q y ys f a.x c.requires.read_at.is_read rule first.result first.ensures a.key.now a.body.now l to.result to.ensures (c.requires.ys_in_bounds y ys f)).2 in record {
       bytes = λ y ys f.
-          content-bytes t m a.q y ys f a.x c.requires.read_at.is_read rule first.result first.ensures a.key.now a.body.now l to.result to.ensures (c.requires.ys_in_bounds y ys f)
+          content_bytes t m a.q y ys f a.x c.requires.read_at.is_read rule first.result first.ensures a.key.now a.body.now l to.result to.ensures (c.requires.ys_in_bounds y ys f)
           a.out.now one.new.track two.new.out three.new.out (take a.q t) (omega (arith, low, long))
           (length-take-le a.q t low) three.ensures.bytes one.ensures.bytes
           (two.ensures.bytes ys (later_steps t m a.q y ys f a.x c.requires.read_at.is_read) (after y ys f));
       marks = λ y ys f.
-          content-marks t m a.q y ys f a.x c.requires.read_at.is_read rule first.result first.ensures a.key.now a.body.now l to.result to.ensures (c.requires.ys_in_bounds y ys f)
+          content_marks t m a.q y ys f a.x c.requires.read_at.is_read rule first.result first.ensures a.key.now a.body.now l to.result to.ensures (c.requires.ys_in_bounds y ys f)
           a.out_marks.now one.new.marks two.new.out_marks three.new.out_marks (take a.q m) (omega (arith, low, long))
           (length-take-le a.q m (omega (arith, low, long))) three.ensures.marks one.ensures.marks
           (two.ensures.marks ys (later_steps t m a.q y ys f a.x c.requires.read_at.is_read) (after y ys f));

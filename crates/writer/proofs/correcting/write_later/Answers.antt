@@ -9,7 +9,7 @@ use Rattle.format.specs.Accept.{Placed}
 use Rattle.sectors.specs.From.{SectorsFrom}
 use Rattle.encode.specs.Gap.{as_rule}
 use Rattle.writer.specs.Remaining.{RoomFor}
-use Rattle.writer.proofs.Later.{writing_now, cut_asks, going_start, going_within, going_end, going_lengths, going_parts, going_onward, going-room, going_next}
+use Rattle.writer.proofs.Later.{writing_now, cut_asks, going_start, going_within, going_end, going_lengths, going_parts, going_onward, going_room, going_next}
 use Rattle.base.proofs.Lists.{cut_is, cut_length}
 use Rattle.writer.proofs.correcting.write_later.Goals as goal
 
@@ -126,7 +126,7 @@ put_span-requires c =
     let x = c.sector_at-x.result in
     let h = going_parts rule a.track.now a.marks.now o.p o.at o.out o.out_marks _ _ i whole c.loop-p-test.true c.sector_at-x.result c.sector_at-x.ensures in
     let n = going_lengths rule a.track.now a.marks.now o.p o.at o.out o.out_marks _ _ i whole c.loop-p-test.true c.sector_at-x.result c.sector_at-x.ensures in
-    let r = going-room rule a.track.now a.marks.now o.p o.at o.out o.out_marks _ _ i whole c.loop-p-test.true c.sector_at-x.result c.sector_at-x.ensures c.span_end-to.result c.span_end-to.ensures in let whole = cut_asks false o.at c.span_end-to.result x.key_length x.data_length (length a.track.now)
+    let r = going_room rule a.track.now a.marks.now o.p o.at o.out o.out_marks _ _ i whole c.loop-p-test.true c.sector_at-x.result c.sector_at-x.ensures c.span_end-to.result c.span_end-to.ensures in let whole = cut_asks false o.at c.span_end-to.result x.key_length x.data_length (length a.track.now)
     (take (x.key_place + x.key_length - x.key_place) (drop x.key_place a.track.now))
     (take (x.data_place + x.data_length - x.data_place) (drop x.data_place a.track.now))
     o.out o.out_marks
