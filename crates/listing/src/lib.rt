@@ -123,7 +123,7 @@ pub fn list(track: &[u8], marks: &[u8], out: &mut [Sector]) -> Listing
 }
 
 // A listing with its records, the first `count` of 67.
-#[derive(Drop)]
+#[derive(Clone, Copy)]
 pub struct Filled {
     pub listing: Listing,
     pub records: [Sector; 67],

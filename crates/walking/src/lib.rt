@@ -7,7 +7,7 @@ ghost use Rattle.reader.specs.Finding.{judged_visit};
 ghost use Rattle.walking.specs.Walked.{judged_step, reader_at, step_of, after_step, visit_of};
 
 // A reader: the lent track and its marks, with the place that it has come to, and whether they are lent within the rule.
-#[derive(Drop)]
+#[derive(Clone, Copy)]
 pub struct Walk<'a> {
     track: &'a [u8],
     marks: &'a [u8],
@@ -16,7 +16,7 @@ pub struct Walk<'a> {
 }
 
 // A step: what it gives, and the place that the reader has come to by it.
-#[derive(Drop)]
+#[derive(Clone, Copy)]
 pub struct Stepped {
     pub visit: reader::Visit,
     pub at: usize,
