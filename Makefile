@@ -38,7 +38,8 @@ prove:
 	@for p in $(PROGRAMS); do $(call renew,crates/$$p/out/$$p,target/bin/$$p); done
 
 host-test: prove
-	$(MAKE) examples tried
+	$(MAKE) examples
+	$(MAKE) tried
 	cd host && $(CARGO) test --quiet
 
 # A file is copied where its copy differs.
