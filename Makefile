@@ -34,7 +34,7 @@ prove:
 	@mkdir -p build target/bin
 	rt ci 2>&1 | tee build/ci.log
 	@grep -q '^rt: ok;' build/ci.log || { echo "'rt ci' did not say 'rt: ok'"; exit 1; }
-	@! grep -qE '^rt: ok;.*, [1-9][0-9]* bad' build/ci.log || { grep 'BAD EDIT' build/ci.log; echo "bad must-fail edits: mend them"; exit 1; }
+	@! grep -qE '^rt: ok;.*, [1-9][0-9]* bad' build/ci.log || { grep 'BAD EDIT' build/ci.log || true; echo "bad must-fail edits: mend them"; exit 1; }
 	@for p in $(PROGRAMS); do $(call renew,crates/$$p/out/$$p,target/bin/$$p); done
 
 host-test: prove
