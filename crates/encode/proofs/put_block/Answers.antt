@@ -6,9 +6,6 @@ use Rattle.format.specs.Written.{written_block}
 use Rattle.base.proofs.Laid.{laid_next}
 use Rattle.encode.proofs.put_block.Goals as goal
 
--- UNMAPPED tie.Need-slice-aggregate-put-bytes
--- slice-aggregate-put-bytes c = search rules
-
 pub returns : goal.returns
 unfolding written_block
 returns c =

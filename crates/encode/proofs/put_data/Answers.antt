@@ -10,9 +10,6 @@ use Rattle.base.proofs.Laid.{laid_next}
 use Rattle.encode.proofs.Blocks.{data_none, data_some, data_size_none, data_size_some}
 use Rattle.encode.proofs.put_data.Goals as goal
 
--- UNMAPPED tie.Need-slice-aggregate-put-bytes
--- slice-aggregate-put-bytes c = search rules
-
 pub put_bytes-p-requires : goal.put_bytes-p-requires
 put_bytes-p-requires c = omega (arith, data_size_none (length c.args.body.now) c.if-body-eq0.true)
 

@@ -16,9 +16,6 @@ returns-then-first c =
     let e = c.if-first.true in
     one.ensures.bytes ∙ ap (λ (l : List ℕ). laid_at 0 l a.m.now) (sym (marks_first a.first a.n e (omega (arith, opening_first a.first e))))
 
--- UNMAPPED tie.Need-slice-aggregate-put-bytes
--- slice-aggregate-put-bytes c = search rules
-
 pub put_bytes-p-requires : goal.put_bytes-p-requires
 put_bytes-p-requires c = omega (arith, opening_later c.args.first c.if-first.false)
 

@@ -7,9 +7,6 @@ use Rattle.base.specs.Laid.{laid_at}
 use Rattle.encode.proofs.Openings.{opening_first, opening_later, bytes_first, bytes_later}
 use Rattle.encode.proofs.put_opening.Goals as goal
 
--- UNMAPPED tie.Need-slice-aggregate-put-bytes
--- slice-aggregate-put-bytes c = search rules
-
 pub put_bytes-requires : goal.put_bytes-requires
 put_bytes-requires c = omega (arith, opening_first c.args.first c.if-first.true)
 
@@ -19,9 +16,6 @@ returns-then-first c =
     let one = c.put_bytes in
     let e = c.if-first.true in
     record { place = omega (arith, opening_first a.first e); bytes = one.ensures.bytes ∙ ap (λ (l : List ℕ). laid_at 0 l a.t.now) (sym (bytes_first a.first e)) }
-
--- UNMAPPED tie.Need-slice-aggregate-put-bytes-2
--- slice-aggregate-put-bytes-2 c = search rules
 
 pub put_bytes-requires-2 : goal.put_bytes-requires-2
 put_bytes-requires-2 c = omega (arith, opening_later c.args.first c.if-first.false)

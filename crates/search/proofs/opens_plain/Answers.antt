@@ -2,12 +2,6 @@
 use Rattle.format.specs.Lent.{cells}
 use Rattle.search.proofs.opens_plain.Goals as goal
 
--- UNMAPPED tie.Need-slice-aggregate-starts-with
--- slice-aggregate-starts-with c = search rules
-
--- UNMAPPED tie.Need-slice-aggregate-starts-with-2
--- slice-aggregate-starts-with-2 c = search rules
-
 pub returns : goal.returns
 unfolding cells
 returns c = c.starts_with.ensures

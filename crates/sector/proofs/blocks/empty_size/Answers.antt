@@ -6,9 +6,6 @@ use Rattle.sector.proofs.blocks.empty_size.Goals as goal
 pub returns-then-c-lt-EMPTY_BLOCK : goal.returns-then-c-lt-EMPTY_BLOCK
 returns-then-c-lt-EMPTY_BLOCK c = size_short c.args.c.now c.if-c-lt-EMPTY_BLOCK.true
 
--- UNMAPPED tie.Need-slice-aggregate-starts-with
--- slice-aggregate-starts-with c = search rules
-
 pub returns-then-starts_with : goal.returns-then-starts_with
 returns-then-starts_with c = size_closed c.args.c.now (sym c.starts_with.ensures ∙ c.if-starts_with.true)
 
