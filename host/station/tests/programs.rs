@@ -502,3 +502,44 @@ fn lost_output_is_told() {
     assert!(told.contains("could not be written"), "{told}");
     assert_eq!(output.status.code(), Some(2));
 }
+
+/// Where the input cannot be read or the output not be written, each program says so, and its status is not that of a finished job.
+#[test]
+fn failed_reads_and_writes_are_told() {
+    let samples = repository().join("samples");
+    let open = |name: &str| std::fs::File::open(samples.join(name)).expect("a sample opens");
+    let full = || {
+        let opened = std::fs::OpenOptions::new().write(true).open("/dev/full");
+        opened.expect("a file that is always full")
+    };
+    let told = |name: &str, command: &mut Command, wanted: &str| {
+        let output = command.output().expect("the program ends");
+        let error = String::from_utf8_lossy(&output.stderr);
+        assert!(error.contains(wanted), "{name}: {error}");
+        assert_eq!(output.status.code(), Some(1), "{name}: {error}");
+        output.stdout
+    };
+    for name in ["tracklist", "trackwalk", "trackdump"] {
+        let mut reading = Command::new(program(name));
+        let written = told(name, reading.stdin(open(".")), "Is a directory");
+        assert!(
+            written.is_empty(),
+            "{name} went on with what it had not read"
+        );
+        let mut writing = Command::new(program(name));
+        let writing = writing.stdin(open("case5.bin")).stdout(full());
+        told(name, writing, "No space left");
+    }
+    let pair = |first: &Path| {
+        let mut command = Command::new(program("trackpair"));
+        command.args([first, &samples.join("alternative.bin"), Path::new("1")]);
+        command
+    };
+    let written = told("trackpair", &mut pair(&samples), "Is a directory");
+    assert!(
+        written.is_empty(),
+        "trackpair went on with what it had not read"
+    );
+    let mut writing = pair(&samples.join("defective.bin"));
+    told("trackpair", writing.stdout(full()), "No space left");
+}
