@@ -24,13 +24,8 @@ use Rattle.format.proofs.Spans.StrayMark.{marks_stray}
 use Rattle.accepting.specs.Starts.{starts_in}
 use Rattle.accepting.specs.Accepting.{NoStrayMark, numbers_in}
 use Rattle.accepting.proofs.AcceptAnswers.{sector_zero}
-use Rattle.format.proofs.Base.Judged.{refusal_stays, answer_then, require_zero}
+use Rattle.format.proofs.Base.Judged.{refusal_stays, answer_then, require_zero, then_zero}
 use Rattle.accepting.proofs.AcceptFirst.{opens_first_lem}
-
--- A step whose answer is 0 began with the answer 0.
-then_zero : {A B : Type 0} (j : Judged A) (k : A → Judged B) → (answer_of (then j k)).number ≡ 0 → (answer_of j).number ≡ 0
-then_zero (good x) k e = refl
-then_zero (refused a) k e = e
 
 -- A span is good where its answer is 0.
 read_zero : (h : Home) (i : ℕ) (x : Settled) (p : ℕ) (last : Bool) (g : List ℕ) → (answer_of (read_span h i x p last g)).number ≡ 0 → (s : Sector) × (read_span h i x p last g ≡ good s)
@@ -197,7 +192,3 @@ module _ (t m : List ℕ) (e : lent_for_reading t m ≡ true) where
     accept_good z =
         let g = behind_zero h (cells t m) (ap (λ (a : Answer). a.number) (sym r) ∙ z) in
         rw (e, accept_behind h (cells t m) (sym j), g.1)
-
--- The answer of Accept by what is handed on.
-pub accept_answer : (t m : List ℕ) (j : Judged Home) → j ≡ home_only (accept t m) → answer_of j ≡ answer_of (accept t m)
-accept_answer t m j e = ap answer_of e ∙ answer_then (accept t m) (λ a. a.home)

@@ -126,6 +126,12 @@ first_front p t m ns n u o e =
         absurd (omega (arith, ap length w, length-append (before_opening (drop p (cells t m))) [], length-drop p (cells t m), length_cells t m, u.lengths, u.reach))
     reach (y ∷ gs) w k f l = omega arith
 
+-- Behind it the first later one starts, or index comes.
+pub first_end : (p : ℕ) (t m ns : List ℕ) → NoStrayMark p t m ns → starts_with plain_opening (drop p (cells t m)) ≡ true → (p + 6 ≤ get_or ns 0 (length t)) × (get_or ns 0 (length t) ≤ length t) × (length t ≤ 4002)
+first_end p t m ns u o =
+    let f = first_front p t m ns (get_or ns 0 (length t) - p) u o refl in
+    (omega (arith, f.opening), omega (arith, f.opening, f.fits), u.within)
+
 -- Sector 0's count does not open.
 pub first_missing : (h : Home) (p : ℕ) (t m ns : List ℕ) → NoStrayMark p t m ns → starts_with plain_opening (drop p (cells t m)) ≡ false
     → answer_of (read_spans h 0 unsettled p (spans (drop p (cells t m)))) ≡ first_count_missing p

@@ -10,9 +10,6 @@ use Rattle.format.specs.Lent.{cells}
 use Rattle.format.specs.Home.{find_home, home_bytes, home_of, judge_home_of, judge_home}
 use Rattle.format.proofs.Track.Pairs.{length_bytes}
 use Rattle.sector.proofs.Opening.{closed_short}
-use Rattle.accepting.specs.declared.home.HomeJudged.{HomeJudged}
-use Rattle.accepting.specs.declared.home.HomeJudged.TheVariants.{Right, Refused}
-use Rattle.accepting.specs.Accepting.{HomeStartsAt, HomeInWindow}
 use Rattle.accepting.proofs.AcceptBytes.{taken_bytes}
 
 -- No home was found.
@@ -45,8 +42,3 @@ home_bytes_lem t m p b l =
 pub place_of : (p : ℕ) (r : List ℕ) → (home_of p r).place ≡ p
 unfolding home_of
 place_of p r = refl
-
--- It stands in the window where it was found.
-pub in_window : (p : ℕ) (j : HomeJudged) → HomeStartsAt p j → (23 ≤ p) × (p ≤ 37) → HomeInWindow j
-in_window p (Right h) e w = (omega arith, omega arith)
-in_window p (Refused a) e w = tt

@@ -10,7 +10,9 @@ use lib.Seq.{get_or-drop}
 use lib.Dec.{leb, eqb}
 use borrow.Author.Tests.{leb-true, leb-false, eqb-true}
 use Rattle.base.specs.Pick.{pick}
-use Rattle.format.specs.Answer.{Answer, lent_wrong}
+use Rattle.format.specs.Answer.{Answer, lent_wrong, as_refusal}
+use Rattle.format.specs.declared.Refusal.{Refusal}
+use Rattle.format.specs.declared.Refusal.TheVariants.{LentWrong, HomeMissing, HomeCheckWrong, HomeFieldsWrong, MarkStray, FirstCountMissing, CountCheckWrong, CountFieldsWrong, SpanTooShort, KeyWrong, DataWrong, SectorMissing, SectorRepeated, WantedWrong, RoomMissing, PairWrong, PatternWrong, HeaderWrong, OffsetWrong, FileLengthWrong, SpareBitsSet, BufferTooShort}
 use Rattle.format.specs.Judged.{Judged, good, refused, then, answer_of}
 use Rattle.format.specs.Lent.{length_right, marks_legal, lent_for_writing, lent_for_reading, cells}
 use Rattle.format.specs.Home.{Home, judge_home}
@@ -82,3 +84,28 @@ module _ (t m : List ℕ) (w : lent_for_writing (length t) (length m) ≡ true) 
 pub lent_not : (t m : List ℕ) → lent_for_writing (length t) (length m) ≡ false → lent_for_reading t m ≡ false
 unfolding lent_for_reading
 lent_not t m w = rw w
+
+-- Of the refusals of the code only that of a stray mark has the answer 5.
+pub stray_number : (e : Refusal) → ((p : ℕ) → e ≡ MarkStray p → ⊥) → (as_refusal e).number ≡ 5 → ⊥
+stray_number LentWrong h z = omega arith
+stray_number HomeMissing h z = omega arith
+stray_number (HomeCheckWrong p) h z = omega arith
+stray_number (HomeFieldsWrong p) h z = omega arith
+stray_number (MarkStray p) h z = h p refl
+stray_number (FirstCountMissing p) h z = omega arith
+stray_number (CountCheckWrong p) h z = omega arith
+stray_number (CountFieldsWrong p) h z = omega arith
+stray_number (SpanTooShort p) h z = omega arith
+stray_number (KeyWrong f p) h z = omega arith
+stray_number (DataWrong f p) h z = omega arith
+stray_number SectorMissing h z = omega arith
+stray_number (SectorRepeated p) h z = omega arith
+stray_number WantedWrong h z = omega arith
+stray_number RoomMissing h z = omega arith
+stray_number PairWrong h z = omega arith
+stray_number (PatternWrong p) h z = omega arith
+stray_number HeaderWrong h z = omega arith
+stray_number OffsetWrong h z = omega arith
+stray_number FileLengthWrong h z = omega arith
+stray_number SpareBitsSet h z = omega arith
+stray_number BufferTooShort h z = omega arith

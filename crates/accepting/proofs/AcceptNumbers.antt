@@ -1,13 +1,14 @@
 -- Answer 13 by a table of flags, one for each number, from one sector to the next.
 use mathlib.Core.Path.{◌≡◌, refl, sym, ap, ◌∙◌}
-use Prim.Native.Nat.{ℕ, suc, ◌+◌, ◌-◌, ◌≤◌, ◌<◌}
+use Prim.Native.Nat.{ℕ, zero, suc, ◌+◌, ◌-◌, ◌≤◌, ◌<◌}
 use native.Mathlib.Omega.{arith}
-use mathlib.Core.Bool.{true, false, not, ◌||◌}
-use mathlib.Core.List.{List, [], ◌∷◌}
+use mathlib.Core.Bool.{Bool, true, false, not, ◌||◌}
+use mathlib.Core.List.{List, [], ◌∷◌, map}
 use lib.ListN.{length, get_or, take, drop, set, replicate, length-drop, length-set, length-replicate, get_or-replicate}
 use lib.Seq.{drop-drop, get_or-drop, get_or-set_same, get_or-set_other}
 use lib.Dec.{eqb}
-use borrow.Author.Tests.{eq-eqb, ne_eqb, eqb-true, eqb-false}
+use borrow.Author.Tests.{eqb-true, eqb-false}
+use Rattle.std.proofs.lemmas.List.{map-set}
 use Rattle.format.specs.Answer.{sector_repeated}
 use Rattle.format.specs.Judged.{Judged, good, refused, require}
 use Rattle.format.specs.Lent.{cells, unmarked}
@@ -22,59 +23,55 @@ use Rattle.accepting.proofs.AcceptSpans.{Front, front, no_span}
 use Rattle.accepting.proofs.AcceptFirst.{First}
 
 -- 13 by the spans of later sectors, where the flags f say which numbers were passed.
-unfoldable pub flagged : List ℕ → ℕ → List (List ℕ) → Judged (Unit {0})
+unfoldable pub flagged : List Bool → ℕ → List (List ℕ) → Judged (Unit {0})
 flagged f p [] = good tt
 flagged f p (g ∷ gs) =
     let n = count_number (drop 8 g) in
-    require (eqb (get_or f n 0) 0) (sector_repeated p) (flagged (set f n 1) (p + length g) gs)
+    require (not (get_or f n false)) (sector_repeated p) (flagged (set f n true) (p + length g) gs)
 
 -- The flags of 256 numbers are set for those passed.
-record Agree (f seen : List ℕ) : Type 0 where
+record Agree (f : List Bool) (seen : List ℕ) : Type 0 where
   size : length f ≡ 256
-  flags : (n : ℕ) → n < 256 → eqb (get_or f n 0) 0 ≡ not (among n seen)
+  flags : (n : ℕ) → n < 256 → get_or f n false ≡ among n seen
 
 -- One more number is passed.
-agree_next : (f seen : List ℕ) (n : ℕ) → n < 256 → Agree f seen → Agree (set f n 1) (n ∷ seen)
+agree_next : (f : List Bool) (seen : List ℕ) (n : ℕ) → n < 256 → Agree f seen → Agree (set f n true) (n ∷ seen)
 unfolding among
-agree_next f seen n l a = record { size = length-set f n 1 ∙ a.size; flags = λ k b. cases (eqb k n) (same k b) (other k b) }
+agree_next f seen n l a = record { size = length-set f n true ∙ a.size; flags = λ k b. cases (eqb k n) (same k b) (other k b) }
   where
-    same : (k : ℕ) → k < 256 → eqb k n ≡ true → eqb (get_or (set f n 1) k 0) 0 ≡ not (eqb k n || among k seen)
+    same : (k : ℕ) → k < 256 → eqb k n ≡ true → get_or (set f n true) k false ≡ (eqb k n || among k seen)
     same k b e =
         let q : k ≡ n = eqb-true k n e in
-        rw (e, q, get_or-set_same f n 1 0 (omega (arith, a.size)))
+        rw (e, q, get_or-set_same f n true false (omega (arith, a.size)))
 
-    other : (k : ℕ) → k < 256 → eqb k n ≡ false → eqb (get_or (set f n 1) k 0) 0 ≡ not (eqb k n || among k seen)
-    other k b e = rw (e, get_or-set_other f n k 1 0 (eqb-false k n e)) (a.flags k b)
+    other : (k : ℕ) → k < 256 → eqb k n ≡ false → get_or (set f n true) k false ≡ (eqb k n || among k seen)
+    other k b e = rw (e, get_or-set_other f n k true false (eqb-false k n e)) (a.flags k b)
 
-agree_none : Agree (replicate 256 0) []
+agree_none : Agree (replicate 256 false) []
 unfolding among
-agree_none = record { size = length-replicate {A = ℕ} 256 0; flags = λ n l. rw (get_or-replicate {A = ℕ} 256 n 0 0 l) }
+agree_none = record { size = length-replicate {A = Bool} 256 false; flags = λ n l. rw (get_or-replicate {A = Bool} 256 n false false l) }
 
 -- The flags say what the list of numbers says.
-flagged_numbers : (f seen : List ℕ) (i p : ℕ) (gs : List (List ℕ)) → clean_spans (suc i) gs ≡ true → Agree f seen → flagged f p gs ≡ numbers_in seen (suc i) p gs
+flagged_numbers : (f : List Bool) (seen : List ℕ) (i p : ℕ) (gs : List (List ℕ)) → clean_spans (suc i) gs ≡ true → Agree f seen → flagged f p gs ≡ numbers_in seen (suc i) p gs
 unfolding flagged numbers_in clean_spans clean_span
 flagged_numbers f seen i p [] c a = refl
 flagged_numbers f seen i p (g ∷ gs) c a =
     let k = and_both (unmarked (drop 8 g)) (clean_spans (suc (suc i)) gs) c in
     let n : ℕ = count_number (drop 8 g) in
     let l : n < 256 = unmarked_at (drop 8 g) 5 k.0 in
-    rw (a.flags n l, flagged_numbers (set f n 1) (n ∷ seen) (suc i) (p + length g) gs k.1 (agree_next f seen n l a))
+    rw (a.flags n l, flagged_numbers (set f n true) (n ∷ seen) (suc i) (p + length g) gs k.1 (agree_next f seen n l a))
 
 -- No sector is left.
-pub flagged_none : (f : List ℕ) (p : ℕ) (t m : List ℕ) → length t ≤ p → flagged f p (later_spans (cells (drop p t) (drop p m))) ≡ good tt
+pub flagged_none : (f : List Bool) (p : ℕ) (t m : List ℕ) → length t ≤ p → flagged f p (later_spans (cells (drop p t) (drop p m))) ≡ good tt
 unfolding flagged
 flagged_none f p t m l = rw (no_span (drop p t) (drop p m) (omega (arith, length-drop p t)))
-
--- The place at i + 1 of a list is the second of what is left from i on.
-get_d_next : (ns : List ℕ) (i d : ℕ) → get_or (drop i ns) 1 d ≡ get_or ns (i + 1) d
-get_d_next ns i d = get_or-drop i ns 1 d
 
 -- The span of the later sector at place q, of n cells, where the places from i on are those of the spans that are left.
 pub ahead : (t m ns : List ℕ) (i q n : ℕ) → LaterSpans q (drop q t) (drop q m) (drop i ns) → q < length t → n ≡ get_or ns (i + 1) (length t) - q
     → Front q n (drop q t) (drop q m) (drop i ns)
 ahead t m ns i q n r l e =
     let k : q + length (drop q t) ≡ length t = omega (arith, length-drop q t) in
-    front q (drop q t) (drop q m) (drop i ns) n r (rw (k, get_d_next ns i (length t)) e) (omega (arith, length-drop q t))
+    front q (drop q t) (drop q m) (drop i ns) n r (rw (k, get_or-drop i ns 1 (length t)) e) (omega (arith, length-drop q t))
 
 module _ (t m ns : List ℕ) (i q n : ℕ) (f : Front q n (drop q t) (drop q m) (drop i ns)) where
   -- What is left behind it.
@@ -90,17 +87,22 @@ module _ (t m ns : List ℕ) (i q n : ℕ) (f : Front q n (drop q t) (drop q m) 
         e ∙ ap count_number b
 
     -- It was passed before.
-    pub ahead_repeated : (s : List ℕ) → (get_or s number 0 ≡ 0 → ⊥) → flagged s q (later_spans (cells (drop q t) (drop q m))) ≡ refused (sector_repeated q)
+    pub ahead_repeated : (s : List Bool) → get_or s number false ≡ true → flagged s q (later_spans (cells (drop q t) (drop q m))) ≡ refused (sector_repeated q)
     unfolding flagged
-    ahead_repeated s h = rw (f.cut, ← number_is, ne_eqb (get_or s number 0) 0 h)
+    ahead_repeated s h = rw (f.cut, ← number_is, h)
 
     -- It was not passed before.
-    pub ahead_next : (s : List ℕ) → get_or s number 0 ≡ 0
-        → flagged s q (later_spans (cells (drop q t) (drop q m))) ≡ flagged (set s number 1) (q + n) (later_spans (cells (drop (q + n) t) (drop (q + n) m)))
+    pub ahead_next : (s : List Bool) → get_or s number false ≡ false
+        → flagged s q (later_spans (cells (drop q t) (drop q m))) ≡ flagged (set s number true) (q + n) (later_spans (cells (drop (q + n) t) (drop (q + n) m)))
     unfolding flagged
     ahead_next s h =
         let d : later_spans (cells (drop (q + n) t) (drop (q + n) m)) ≡ f.later = rw (drop-drop n q t, drop-drop n q m) at f.later_cut in
-        rw (f.cut, ← number_is, eq-eqb (get_or s number 0) 0 h, d, f.size)
+        rw (f.cut, ← number_is, h, d, f.size)
+
+-- A list of one value, each turned by f.
+map_replicate : (f : ℕ → Bool) (n a : ℕ) → map f (replicate n a) ≡ replicate n (f a)
+map_replicate f zero a = refl
+map_replicate f (suc n) a = ap (λ (l : List Bool). f a ∷ l) (map_replicate f n a)
 
 -- Sector 0 at place p, of n cells: its number is the first that is passed, and what is left behind it decides.
 module _ (t m ns : List ℕ) (p n : ℕ) (u : NoStrayMark p t m ns) (f : First p n t m ns) (number : ℕ) (e : number ≡ get_or (take (p + n - (p + 6)) (drop (p + 6) t)) 5 0) where
@@ -109,7 +111,7 @@ module _ (t m ns : List ℕ) (p n : ℕ) (u : NoStrayMark p t m ns) (f : First p
 
   -- The numbers by the flags of which that of sector 0 is set.
   pub zero_flagged : numbers_in [] 0 p (spans (drop p (cells t m)))
-      ≡ flagged (set (replicate 256 0) number 1) (p + n) (later_spans (cells (drop (p + n) t) (drop (p + n) m)))
+      ≡ flagged (set (replicate 256 false) number true) (p + n) (later_spans (cells (drop (p + n) t) (drop (p + n) m)))
   unfolding numbers_in spans among clean_spans clean_span
   zero_flagged =
       let d : List ℕ = drop p (cells t m) in
@@ -118,4 +120,13 @@ module _ (t m ns : List ℕ) (p n : ℕ) (u : NoStrayMark p t m ns) (f : First p
       let x : ℕ = count_number (drop 6 (before_opening d)) in
       let b : x < 256 = unmarked_at (drop 6 (before_opening d)) 5 (unmarked_drop 6 (before_opening d) v.0) in
       rw (f.later_cut, ← f.size, zero_number)
-      (sym (flagged_numbers (set (replicate 256 0) x 1) (x ∷ []) 0 (p + length (before_opening d)) (later_spans d) v.1 (agree_next (replicate 256 0) [] x b agree_none)))
+      (sym (flagged_numbers (set (replicate 256 false) x true) (x ∷ []) 0 (p + length (before_opening d)) (later_spans d) v.1 (agree_next (replicate 256 false) [] x b agree_none)))
+
+  -- The same by a table of numbers, 0 for one that was not passed and 1 for one that was.
+  pub zero_flagged_numbers : numbers_in [] 0 p (spans (drop p (cells t m)))
+      ≡ flagged (map (λ (k : ℕ). not (eqb k 0)) (set (replicate 256 0) number 1)) (p + n) (later_spans (cells (drop (p + n) t) (drop (p + n) m)))
+  zero_flagged_numbers =
+      let passed : ℕ → Bool = λ k. not (eqb k 0) in
+      let e : map passed (set (replicate 256 0) number 1) ≡ set (replicate 256 false) number true =
+      map-set passed (replicate 256 0) number 1 ∙ ap (λ (f : List Bool). set f number true) (map_replicate passed 256 0) in
+      zero_flagged ∙ ap (λ (f : List Bool). flagged f (p + n) (later_spans (cells (drop (p + n) t) (drop (p + n) m)))) (sym e)

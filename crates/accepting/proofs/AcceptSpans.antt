@@ -37,7 +37,7 @@ pub record Front (p n : ℕ) (t m ns : List ℕ) : Type 0 where
   pub fits : n ≤ length t
   pub bytes : take (n - 8) (drop 8 t) ≡ drop 8 span
   pub last : leb (length ns) 1 ≡ none later
-  pub IsListed : 1 ≤ length ns
+  pub listed : 1 ≤ length ns
   pub later_cut : later_spans (cells (drop n t) (drop n m)) ≡ later
   pub rest : LaterSpans (p + n) (drop n t) (drop n m) (drop 1 ns)
 
@@ -102,7 +102,7 @@ module _ (p : ℕ) (t m ns : List ℕ) (n : ℕ) (r : LaterSpans p t m ns) (e : 
         fits = fits;
         bytes = sym (span_rest_bytes 8 0 (n - 8) t m (ap (λ (k : ℕ). k - 8) by-mark)) ∙ ap (span_rest 8) (sym whole) ∙ a.1;
         last = ap (λ (l : List ℕ). leb (length l) 1) places ∙ last_listed p g gs;
-        IsListed = rw places (one_listed p g gs);
+        listed = rw places (one_listed p g gs);
         later_cut = cut;
         rest = record {
           lengths = omega (arith, length-drop n t, length-drop n m, r.lengths);
@@ -122,12 +122,21 @@ module _ (p : ℕ) (t m ns : List ℕ) (n : ℕ) (r : LaterSpans p t m ns) (e : 
           absurd (omega (arith, ap length whole, length_cells t m, r.lengths))
       go (g ∷ gs) z = first_span g gs z
 
+-- Behind it the next one starts, or index comes; it is listed itself.
+pub next_start : (p : ℕ) (t m ns : List ℕ) → LaterSpans p t m ns → (length t ≡ 0 → ⊥) → (p + 8 ≤ get_or ns 1 (p + length t)) × (get_or ns 1 (p + length t) ≤ p + length t) × (1 ≤ length ns)
+next_start p t m ns r h =
+    let f = front p t m ns (get_or ns 1 (p + length t) - p) r refl (omega arith) in
+    (omega (arith, f.opening), omega (arith, f.opening, f.fits), f.listed)
+
 -- Nothing is left: there is no span.
 pub no_span : (t m : List ℕ) → length t ≡ 0 → later_spans (cells t m) ≡ []
 unfolding cells later_spans
 no_span [] m e = refl
 no_span (b ∷ t) m e = absurd (omega arith)
 
--- What is left behind the first span of n cells, as slices.
-pub rest_next : (p n : ℕ) (t m ns : List ℕ) → Front p n t m ns → LaterSpans (p + n) (take (length t - n) (drop n t)) (take (length m - n) (drop n m)) (take (length ns - 1) (drop 1 ns))
-rest_next p n t m ns f = rw (part_all n t, part_all n m, part_all 1 ns) f.rest
+-- What is left behind the first span of n cells, as slices; it is shorter.
+pub rest_next : (p n : ℕ) (t m ns : List ℕ) → LaterSpans p t m ns → n ≡ get_or ns 1 (p + length t) - p → (length t ≡ 0 → ⊥)
+    → (length (take (length t - n) (drop n t)) < length t) × LaterSpans (p + n) (take (length t - n) (drop n t)) (take (length m - n) (drop n m)) (take (length ns - 1) (drop 1 ns))
+rest_next p n t m ns r e h =
+    let f = front p t m ns n r e (omega arith) in
+    rw (part_all n t, part_all n m, part_all 1 ns) (omega (arith, f.opening, f.fits, length-drop n t), f.rest)

@@ -18,15 +18,16 @@ use Rattle.format.specs.Count.{Settled, settled, count_fields_right}
 use Rattle.format.specs.Span.{later_spans, none}
 use Rattle.format.specs.Sector.{Sector, judge_sector}
 use Rattle.format.specs.Accept.{read_spans}
+use Rattle.base.proofs.Lists.{part_all}
 use Rattle.base.proofs.Tests.{cases}
 use Rattle.sector.specs.Right.{sector_right}
 use Rattle.sector.proofs.Right.{right_good, right_not}
 use Rattle.accepting.specs.Starts.{starts_of}
 use Rattle.accepting.specs.Wrong.{wrong_left}
 use Rattle.accepting.specs.Accepting.{LaterSpans}
-use Rattle.accepting.proofs.Starts.{get_d_within}
+use Rattle.std.proofs.lemmas.List.{get_or_default}
 use Rattle.accepting.proofs.AcceptAnswers.{sequence_two, spans_refused, spans_good}
-use Rattle.accepting.proofs.AcceptSpans.{Front, no_span}
+use Rattle.accepting.proofs.AcceptSpans.{Front, front, no_span}
 use Rattle.accepting.proofs.AcceptNumbers.{ahead, ahead_rest}
 
 -- A later sector is right alike two positions later,
@@ -67,8 +68,21 @@ module _ (h : Home) (i : ℕ) (a : Address) (p n : ℕ) (t m ns : List ℕ) (f :
   wrong_later w = rw (f.cut, by_bytes, w, f.later_cut)
 
 -- As many are listed as there are spans.
-pub front_count : (p n : ℕ) (t m ns : List ℕ) → LaterSpans p t m ns → (f : Front p n t m ns) → length ns ≡ suc (length f.later)
+front_count : (p n : ℕ) (t m ns : List ℕ) → LaterSpans p t m ns → (f : Front p n t m ns) → length ns ≡ suc (length f.later)
 front_count p n t m ns r f = ap length r.places ∙ length_starts p (later_spans (cells t m)) ∙ ap length f.cut
+
+-- The same of what is left, where its first span has n cells.
+module _ (h : Home) (i : ℕ) (a : Address) (p n : ℕ) (t m ns : List ℕ) (r : LaterSpans p t m ns) (e : n ≡ get_or ns 1 (p + length t) - p) (some : length t ≡ 0 → ⊥)
+    (last : Bool) (l : last ≡ leb (length ns) 1) where
+  here : Front p n t m ns
+  here = front p t m ns n r e (omega arith)
+
+  pub left_wrong : sector_right h i (settled a) last (take (n - 8) (drop 8 t)) ≡ false → length ns ≡ wrong_left h i a (later_spans (cells t m))
+  left_wrong w = wrong_here h i a p n t m ns here last l (front_count p n t m ns r here) w
+
+  pub left_right : sector_right h i (settled a) last (take (n - 8) (drop 8 t)) ≡ true
+      → wrong_left h (suc i) a (later_spans (cells (take (length t - n) (drop n t)) (take (length m - n) (drop n m)))) ≡ wrong_left h i a (later_spans (cells t m))
+  left_right w = rw (part_all n t, part_all n m) (wrong_later h i a p n t m ns here last l w)
 
 -- No more are left than there are.
 wrong_most : (h : Home) (i : ℕ) (a : Address) (gs : List (List ℕ)) → wrong_left h i a gs ≤ length gs
@@ -168,7 +182,7 @@ module _ (t m ns : List ℕ) (p : ℕ) (r : LaterSpans p (drop p t) (drop p m) n
           let f = ahead t m ns j q n s.left s.reach refl in
           let one : j + 1 ≡ suc j = omega arith in
           let g : get_or ns (j + 1) (length t) ≡ q + n = omega (arith, f.opening) in
-          let d : get_or ns (suc j) 0 ≡ q + n = get_d_within ns (suc j) (length t) h ∙ ap (λ (k : ℕ). get_or ns k (length t)) (sym one) ∙ g in
+          let d : get_or ns (suc j) 0 ≡ q + n = get_or_default ns (suc j) 0 (length t) h ∙ ap (λ (k : ℕ). get_or ns k (length t)) (sym one) ∙ g in
           let c : drop (suc j) (later_spans (cells (drop p t) (drop p m))) ≡ f.later =
           ap (λ (k : ℕ). drop k (later_spans (cells (drop p t) (drop p m)))) (sym one) ∙ sym (drop-drop 1 j (later_spans (cells (drop p t) (drop p m)))) ∙ ap (drop 1) (sym s.spans_are ∙ f.cut) in
           let u : later_spans (cells (drop (q + n) t) (drop (q + n) m)) ≡ f.later = rw (drop-drop n q t, drop-drop n q m) at f.later_cut in
@@ -177,6 +191,15 @@ module _ (t m ns : List ℕ) (p : ℕ) (r : LaterSpans p (drop p t) (drop p m) n
           let k : 0 < length f.later = omega (arith, ap length c, length-drop (suc j) (later_spans (cells (drop p t) (drop p m))), listed_length) in
           let b : 0 < length (drop (q + n) t) = spans_bytes (q + n) (drop (q + n) t) (drop (q + n) m) (drop (j + 1) ns) v (omega (arith, ap length u)) in
           record { reach = rw d (omega (arith, length-drop (q + n) t)); left = rw (d, e) v; spans_are = rw d (u ∙ sym c) }
+
+-- Behind a listed sector the next one starts, or index comes.
+pub listed_end : (p : ℕ) (t m ns : List ℕ) (j : ℕ) → LaterSpans p (drop p t) (drop p m) ns → j < length ns
+    → (get_or ns j 0 + 8 ≤ get_or ns (j + 1) (length t)) × (get_or ns (j + 1) (length t) ≤ length t)
+listed_end p t m ns j r h =
+    let q = get_or ns j 0 in
+    let l = left_at t m ns p r j h in
+    let f = ahead t m ns j q (get_or ns (j + 1) (length t) - q) l.left l.reach refl in
+    (omega (arith, f.opening), omega (arith, f.opening, f.fits, l.reach, length-drop q t))
 
 -- Whether a span is the last is told by the list and by what is left of it alike.
 last_at : (ns : List ℕ) (k : ℕ) → k < length ns → leb (length ns) (k + 1) ≡ leb (length (drop k ns)) 1
@@ -225,3 +248,8 @@ module _ (h : Home) (a : Address) (t m ns : List ℕ) (p : ℕ) (r : LaterSpans 
             let position : 1 + (length gs - suc k) ≡ length ns - left + 1 = omega (arith, j) in
             let final : last ≡ none w.later = l ∙ last_at ns (length ns - left) (omega (arith, wrong_listed, some)) ∙ f.last ∙ ap none z in
             c ∙ rw (final, bytes, ← place, ← position) w.answer
+
+-- The same by slices: no more are left than are listed.
+pub left_listed : (h : Home) (a : Address) (t m ns : List ℕ) (p left : ℕ) → LaterSpans p (drop p t) (drop p m) ns
+    → left ≡ wrong_left h 1 a (later_spans (cells (take (length t - p) (drop p t)) (take (length m - p) (drop p m)))) → left ≤ length ns
+left_listed h a t m ns p left r e = wrong_listed h a t m ns p r left (rw (part_all p t, part_all p m) at e)

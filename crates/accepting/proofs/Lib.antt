@@ -10,3 +10,4 @@ pub mod AcceptNumbers
 pub mod AcceptBehind
 pub mod AcceptLegal
 pub mod AcceptWrong
+pub mod AcceptTable

@@ -1,10 +1,10 @@
 -- The places of the marked openings: from mark to mark, and as the places of the spans.
 use mathlib.Core.Path.{◌≡◌, refl, sym, ap, ap₂, ◌∙◌}
-use Prim.Native.Nat.{ℕ, zero, suc, ◌+◌, ◌≤◌, ◌<◌}
+use Prim.Native.Nat.{ℕ, zero, suc, ◌+◌, ◌≤◌}
 use native.Mathlib.Omega.{arith}
 use mathlib.Core.Bool.{true, false}
 use mathlib.Core.List.{List, [], ◌∷◌}
-use lib.ListN.{length, get_or, drop}
+use lib.ListN.{length, drop}
 use lib.Dec.{ltb}
 use Rattle.format.specs.Answer.{mark_stray}
 use Rattle.format.specs.Judged.{Judged, good, refused, answer_of}
@@ -84,15 +84,3 @@ starts_spans q (x ∷ c) =
     rw (o, next)
     (ap₂ (λ (y z : ℕ). y ∷ starts_of z (later_spans c)) {x = q} {y = q + 0} {u = suc q + length (before_opening c)} {v = q + 0 + suc (length (before_opening c))} (omega arith) (omega arith)))
     (λ o. rw (o, next) (ap (λ (z : ℕ). starts_of z (later_spans c)) (omega arith)))
-
--- Behind the end of a list stands what is given for it.
-pub get_d_beyond : (ns : List ℕ) (k l : ℕ) → length ns ≤ k → get_or ns k l ≡ l
-get_d_beyond [] k l h = refl
-get_d_beyond (n ∷ ns) zero l h = absurd (omega arith)
-get_d_beyond (n ∷ ns) (suc k) l h = get_d_beyond ns k l (omega arith)
-
--- Within it that plays no part.
-pub get_d_within : (ns : List ℕ) (k l : ℕ) → k < length ns → get_or ns k 0 ≡ get_or ns k l
-get_d_within [] k l h = absurd (omega arith)
-get_d_within (n ∷ ns) zero l h = refl
-get_d_within (n ∷ ns) (suc k) l h = get_d_within ns k l (omega arith)

@@ -1,6 +1,6 @@
 -- What judging a home and a whole track gives.
-use Rattle.std.specs.Prelude.{◌≡◌, ℕ, suc, ◌+◌, ◌≤◌, true, not, List, [], ◌∷◌, length, drop}
-use Rattle.format.specs.Answer.{as_answer, sector_repeated}
+use Rattle.std.specs.Prelude.{◌≡◌, ℕ, suc, ◌+◌, ◌≤◌, true, not, List, [], ◌∷◌, length, drop, Result, Ok, Err}
+use Rattle.format.specs.Answer.{as_refusal, sector_repeated}
 use Rattle.format.specs.Judged.{Judged, good, refused, require}
 use Rattle.format.specs.Layout.{longest_track, home_first, home_last, first_count_length}
 use Rattle.format.specs.Lent.{cells}
@@ -11,25 +11,31 @@ use Rattle.format.specs.Sector.{opening_length, is_first}
 use Rattle.format.specs.Accept.{judge_marks, among}
 use Rattle.sector.specs.As.{as_home}
 use Rattle.accepting.specs.Starts.{starts_in, starts_of}
-use Rattle.accepting.specs.declared.home.HomeJudged.{HomeJudged}
-use Rattle.accepting.specs.declared.home.HomeJudged.TheVariants.{Right, Refused}
-use Rattle.accepting.specs.declared.Judged.{Judged as JudgedCode}
-use Rattle.accepting.specs.declared.Judged.TheVariants.{Accepted, Refused as RefusedTrack}
+use Rattle.format.specs.declared.Refusal.{Refusal}
+use Rattle.sector.specs.declared.fields.Home.{Home as HomeCode}
 
 -- The home, or the answer that refuses it.
-abbrev pub judged_home : HomeJudged → Judged Home
-judged_home (Right h) = good (as_home h)
-judged_home (Refused a) = refused (as_answer a)
+abbrev pub judged_home : Result HomeCode Refusal → Judged Home
+judged_home (Ok h) = good (as_home h)
+judged_home (Err e) = refused (as_refusal e)
+
+-- The home of an accepted track, or the answer that refuses the track.
+abbrev pub judged_track : Result HomeCode Refusal → Judged Home
+judged_track r = judged_home r
 
 -- A home that is right starts at place p.
-abbrev pub HomeStartsAt : ℕ → HomeJudged → Type 0
-HomeStartsAt p (Right h) = h.place ≡ p
-HomeStartsAt p (Refused a) = Unit {0}
+abbrev pub HomeStartsAt : ℕ → Result HomeCode Refusal → Type 0
+HomeStartsAt p (Ok h) = h.place ≡ p
+HomeStartsAt p (Err e) = Unit {0}
 
 -- A home that is right starts in its window, 23 to 37.
-abbrev pub HomeInWindow : HomeJudged → Type 0
-HomeInWindow (Right h) = (home_first ≤ h.place) × (h.place ≤ home_last)
-HomeInWindow (Refused a) = Unit {0}
+abbrev pub HomeInWindow : Result HomeCode Refusal → Type 0
+HomeInWindow (Ok h) = (home_first ≤ h.place) × (h.place ≤ home_last)
+HomeInWindow (Err e) = Unit {0}
+
+-- The home of an accepted track starts in its window, 23 to 37.
+abbrev pub TrackInWindow : Result HomeCode Refusal → Type 0
+TrackInWindow r = HomeInWindow r
 
 -- What is left of a track from place p on: nothing, or it starts with a whole opening; no mark of it is stray, and ns lists the places of its spans.
 pub record LaterSpans (p : ℕ) (t m ns : List ℕ) : Type 0 where
@@ -53,13 +59,3 @@ numbers_in seen i p [] = good tt
 numbers_in seen i p (g ∷ gs) =
     let n = count_number (drop (opening_length (is_first i)) g) in
     require (not (among n seen)) (sector_repeated p) (numbers_in (n ∷ seen) (suc i) (p + length g) gs)
-
--- The home of an accepted track, or the answer that refuses the track.
-abbrev pub judged_track : JudgedCode → Judged Home
-judged_track (Accepted h) = good (as_home h)
-judged_track (RefusedTrack a) = refused (as_answer a)
-
--- The home of an accepted track starts in its window, 23 to 37.
-abbrev pub TrackInWindow : JudgedCode → Type 0
-TrackInWindow (Accepted h) = (home_first ≤ h.place) × (h.place ≤ home_last)
-TrackInWindow (RefusedTrack a) = Unit {0}

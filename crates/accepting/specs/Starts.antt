@@ -1,11 +1,10 @@
 -- The places at which marked openings stand, and at which spans start.
-use Rattle.std.specs.Prelude.{◌≡◌, ℕ, suc, ◌+◌, ◌≤◌, List, [], ◌∷◌, length, take}
+use Rattle.std.specs.Prelude.{◌≡◌, ℕ, suc, ◌+◌, ◌≤◌, List, [], ◌∷◌, length, take, Result, Ok, Err}
 use Rattle.base.specs.Pick.{pick}
-use Rattle.format.specs.Answer.{mark_stray}
+use Rattle.format.specs.Answer.{as_refusal}
 use Rattle.format.specs.Judged.{Judged, good, refused}
 use Rattle.format.specs.Opening.{opens}
-use Rattle.accepting.specs.declared.marks.MarksJudged.{MarksJudged}
-use Rattle.accepting.specs.declared.marks.MarksJudged.TheVariants.{Stray, Openings}
+use Rattle.format.specs.declared.Refusal.{Refusal}
 
 -- The places of the marked openings of the cells c, which start at place q.
 unfoldable pub starts_in : ℕ → List ℕ → List ℕ
@@ -22,11 +21,11 @@ abbrev pub most_openings : ℕ
 most_openings = 500
 
 -- Answer 5 with the place of the lowest stray mark, or none.
-abbrev pub judged_marks : MarksJudged → Judged (Unit {0})
-judged_marks (Stray q) = refused (mark_stray q)
-judged_marks (Openings k) = good tt
+abbrev pub judged_marks : Result ℕ Refusal → Judged (Unit {0})
+judged_marks (Ok k) = good tt
+judged_marks (Err e) = refused (as_refusal e)
 
 -- Where no mark is stray, the table ys starts with the places xs of the openings, as many as were counted.
-abbrev pub IsListed : MarksJudged → List ℕ → List ℕ → Type 0
-IsListed (Stray q) xs ys = Unit {0}
-IsListed (Openings k) xs ys = (k ≤ length ys) × (take k ys ≡ xs)
+abbrev pub IsListed : Result ℕ Refusal → List ℕ → List ℕ → Type 0
+IsListed (Ok k) xs ys = (k ≤ length ys) × (take k ys ≡ xs)
+IsListed (Err e) xs ys = Unit {0}

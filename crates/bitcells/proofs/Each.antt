@@ -2,7 +2,7 @@
 use mathlib.Core.Path.{◌≡◌, refl, ap}
 use Prim.Native.Nat.{ℕ, zero, suc, ◌+◌, ◌*◌, ◌/◌, ◌<◌, min}
 use native.Mathlib.Omega.{arith}
-use mathlib.Core.List.{List, [], ◌∷◌}
+use mathlib.Core.List.{List, [], ◌∷◌, ◌++◌}
 use lib.ListN.{length, get_or}
 use Rattle.pattern.specs.Pattern.{first_cells, second_cells, clocks_for, cell_bytes}
 use Rattle.bitcells.specs.Each.{each_pattern, each_byte}
@@ -27,6 +27,14 @@ module _ {A : Type 0} (f : ℕ → ℕ → A) where
       let g : suc (suc (2 * i)) + 1 ≡ suc (suc (2 * i + 1)) = omega arith in
       rw (e, g) (get_d_pattern xs i d (omega arith))
 
+  -- Of the cell bytes behind an even number of others they come behind those of the others.
+  pub pattern_append : (n : ℕ) (xs ys : List ℕ) → length xs ≡ 2 * n → each_pattern f (xs ++ ys) ≡ each_pattern f xs ++ each_pattern f ys
+  unfolding each_pattern
+  pattern_append n [] ys e = refl
+  pattern_append n (x ∷ []) ys e = absurd (omega arith)
+  pattern_append zero (x ∷ y ∷ xs) ys e = absurd (omega arith)
+  pattern_append (suc n) (x ∷ y ∷ xs) ys e = ap (λ (r : List A). f x y ∷ r) (pattern_append n xs ys (omega arith))
+
   -- There is one for each byte that has a mark,
   pub length_each : (t m : List ℕ) → length (each_byte f t m) ≡ min (length t) (length m)
   unfolding each_byte
@@ -41,6 +49,14 @@ module _ {A : Type 0} (f : ℕ → ℕ → A) where
   get_d_each (b ∷ t) [] i d h g = absurd (omega arith)
   get_d_each (b ∷ t) (k ∷ m) zero d h g = refl
   get_d_each (b ∷ t) (k ∷ m) (suc i) d h g = get_d_each t m i d (omega arith) (omega arith)
+
+  -- Of the bytes behind as many others as marks they come behind those of the others.
+  pub each_append : (t u m n : List ℕ) → length m ≡ length t → each_byte f (t ++ u) (m ++ n) ≡ each_byte f t m ++ each_byte f u n
+  unfolding each_byte
+  each_append [] u [] n e = refl
+  each_append [] u (k ∷ m) n e = absurd (omega arith)
+  each_append (b ∷ t) u [] n e = absurd (omega arith)
+  each_append (b ∷ t) u (k ∷ m) n e = ap (λ (r : List A). f b k ∷ r) (each_append t u m n (omega arith))
 
   -- Of the cell bytes that are written for a track there is one for each of its bytes.
   pub pattern_written : (t m : List ℕ) → each_pattern f (written_cells t m) ≡ each_byte (λ b k. f (first_cells (clocks_for k) b) (second_cells (clocks_for k) b)) t m

@@ -3,11 +3,11 @@ use mathlib.Core.Path.{◌≡◌, refl, sym, ap, ◌∙◌}
 use Prim.Native.Nat.{ℕ, zero, suc, ◌+◌, ◌≤◌, ◌<◌}
 use native.Mathlib.Omega.{arith}
 use mathlib.Core.Bool.{Bool, true, false}
-use mathlib.Core.List.{List, [], ◌∷◌}
+use mathlib.Core.List.{List, [], ◌∷◌, ◌++◌}
 use lib.ListN.{length, get_or, drop, drop_of_length-le}
-use lib.Seq.{drop-cons}
+use Rattle.std.proofs.lemmas.List.{drop_more}
 use Rattle.format.specs.Answer.{pattern_wrong}
-use Rattle.format.specs.Judged.{Judged, good, refused, answer_of}
+use Rattle.format.specs.Judged.{Judged, good, refused, then, answer_of}
 use Rattle.format.proofs.Base.Judged.{refused-good}
 use Rattle.base.proofs.Tests.{false-true}
 use Rattle.bitcells.specs.Each.{judge_each}
@@ -63,24 +63,25 @@ each_fails p (false ∷ bs) q e = (0, same e, record { inside = omega arith; fai
     same : ◌≡◌ {A = Judged (Unit {0})} (refused (pattern_wrong p)) (refused (pattern_wrong q)) → q ≡ p + 0
     same z = let w : p ≡ q = ap (λ (j : Judged (Unit {0})). (answer_of j).place) z in omega arith
 
--- The search from place i on, where the next n tests hold, goes on behind them,
-pub pass : (n i : ℕ) (bs : List Bool) → i + n ≤ length bs → ((j : ℕ) → j < n → get_or bs (i + j) false ≡ true)
-    → judge_each i (drop i bs) ≡ judge_each (i + n) (drop (i + n) bs)
+-- Of two lists of tests the first is searched, and then the second behind it.
+pub judge_append : (p : ℕ) (cs bs : List Bool) → judge_each p (cs ++ bs) ≡ then (judge_each p cs) (λ _. judge_each (p + length cs) bs)
 unfolding judge_each
-pass zero i bs l h = let e : i ≡ i + 0 = omega arith in ap (λ (k : ℕ). judge_each k (drop k bs)) e
-pass (suc n) i bs l h =
-    let here : get_or bs i false ≡ true = ap (λ (k : ℕ). get_or bs k false) (omega arith) ∙ h 0 (omega arith) in
-    let e : suc i + n ≡ i + suc n = omega arith in
-    rw (drop-cons bs i false (omega arith), here)
-    (pass n (suc i) bs (omega arith) (λ j k. ap (λ (z : ℕ). get_or bs z false) (omega arith) ∙ h (suc j) (omega arith))
-    ∙ ap (λ (k : ℕ). judge_each k (drop k bs)) e)
+judge_append p [] bs = ap (λ (k : ℕ). judge_each k bs) (omega arith)
+judge_append p (true ∷ cs) bs = let e : suc p + length cs ≡ p + suc (length cs) = omega arith in judge_append (suc p) cs bs ∙ ap (λ (k : ℕ). then (judge_each (suc p) cs) (λ _. judge_each k bs)) e
+judge_append p (false ∷ cs) bs = refl
 
--- ends at a test that fails,
-pub stop : (i : ℕ) (bs : List Bool) → i < length bs → get_or bs i false ≡ false → judge_each i (drop i bs) ≡ refused (pattern_wrong i)
-unfolding judge_each
-stop i bs l e = rw (drop-cons bs i false l, e)
+module _ (p i : ℕ) (bs : List Bool) where
+  -- The search that has come to test i goes on behind it where it holds,
+  pub pass : i < length bs → get_or bs i false ≡ true → judge_each (p + i) (drop i bs) ≡ judge_each (p + (i + 1)) (drop (i + 1) bs)
+  unfolding judge_each
+  pass l h = rw (drop_more bs i false l, h) (ap (λ (k : ℕ). judge_each k (drop (i + 1) bs)) (omega arith))
 
--- and is done behind the last one.
-pub end : (i : ℕ) (bs : List Bool) → length bs ≤ i → judge_each i (drop i bs) ≡ good tt
-unfolding judge_each
-end i bs l = rw (drop_of_length-le bs {i = i} l)
+  -- ends there where it fails,
+  pub stop : i < length bs → get_or bs i false ≡ false → judge_each (p + i) (drop i bs) ≡ refused (pattern_wrong (p + i))
+  unfolding judge_each
+  stop l e = rw (drop_more bs i false l, e)
+
+  -- and is done behind the last one.
+  pub end : length bs ≤ i → judge_each (p + i) (drop i bs) ≡ good tt
+  unfolding judge_each
+  end l = rw (drop_of_length-le bs {i = i} l)

@@ -6,7 +6,7 @@ use mathlib.Core.List.{List}
 use lib.ListN.{length}
 use lib.Dec.{eqb}
 use borrow.Author.Tests.{eqb-true}
-use Rattle.format.specs.Answer.{Answer, done, lent_wrong, pattern_wrong}
+use Rattle.format.specs.Answer.{Answer, done, lent_wrong}
 use Rattle.format.specs.Judged.{Judged, good, refused, answer_of, value_or}
 use Rattle.format.specs.Lent.{length_right, lent_for_writing, lent_for_reading}
 use Rattle.base.proofs.Tests.{and_both}
@@ -23,9 +23,9 @@ module _ (x : List ℕ) (l k : ℕ) where
 
   module _ (e : lent_from (length x) l k ≡ true) where
     -- 17,
-    pub from_fault : (p : ℕ) → judge_each 0 (each_pattern legal_pattern x) ≡ refused (pattern_wrong p) → from_cells x l k ≡ refused (pattern_wrong p)
+    pub from_fault : (a : Answer) → judge_each 0 (each_pattern legal_pattern x) ≡ refused a → from_cells x l k ≡ refused a
     unfolding from_cells
-    from_fault p h = rw (e, h)
+    from_fault a h = rw (e, h)
 
     -- and done.
     pub from_done : judge_each 0 (each_pattern legal_pattern x) ≡ good tt → from_cells x l k ≡ good (read_pair x)
@@ -47,9 +47,9 @@ module _ (t m : List ℕ) (n : ℕ) where
 
   module _ (e : lent_to t m n ≡ true) where
     -- 17,
-    pub to_fault : (p : ℕ) → judge_each 0 (each_byte recordable t m) ≡ refused (pattern_wrong p) → to_cells t m n ≡ refused (pattern_wrong p)
+    pub to_fault : (a : Answer) → judge_each 0 (each_byte recordable t m) ≡ refused a → to_cells t m n ≡ refused a
     unfolding to_cells
-    to_fault p h = rw (e, h)
+    to_fault a h = rw (e, h)
 
     -- and done.
     pub to_done : judge_each 0 (each_byte recordable t m) ≡ good tt → to_cells t m n ≡ good (written_cells t m)

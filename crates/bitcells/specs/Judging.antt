@@ -1,10 +1,10 @@
 -- What the search for a fault gives.
-use Rattle.format.specs.Answer.{pattern_wrong}
+use Rattle.std.specs.Prelude.{Result, Ok, Err}
+use Rattle.format.specs.Answer.{as_refusal}
 use Rattle.format.specs.Judged.{Judged, good, refused}
-use Rattle.bitcells.specs.declared.Fault.{Fault}
-use Rattle.bitcells.specs.declared.Fault.TheVariants.{Nowhere, At}
+use Rattle.format.specs.declared.Refusal.{Refusal}
 
--- Answer 17 with the place of the first fault, or none.
-abbrev pub judged_fault : Fault → Judged (Unit {0})
-judged_fault Nowhere = good tt
-judged_fault (At p) = refused (pattern_wrong p)
+-- The refusal with the place of the first fault, or none.
+abbrev pub judged_fault : Result (Unit {0}) Refusal → Judged (Unit {0})
+judged_fault (Ok x) = good tt
+judged_fault (Err e) = refused (as_refusal e)

@@ -1,69 +1,42 @@
 // From bit cells to a track and its marks.
-ghost use Rattle.std.specs.Prelude.{◌≡◌, true, ◌*◌, ◌≤◌, length};
+ghost use Rattle.std.specs.Prelude.{◌≡◌, ◌+◌, ◌*◌, ◌^◌, ◌<◌, length};
 ghost use Rattle.format.specs.Answer.{as_answer};
 ghost use Rattle.format.specs.Written.{after, leaves};
 ghost use Rattle.pattern.specs.Pattern.{data_in, legal_pattern, mark_in};
 ghost use Rattle.bitcells.specs.Each.{each_pattern, judge_each};
 ghost use Rattle.bitcells.specs.FromCells.{lent_from, from_cells};
 ghost use Rattle.bitcells.specs.Judging.{judged_fault};
-ghost use Rattle.bitcells.specs.Passed.{Clocked, LegalFrom};
 
-use crate::Fault;
+use crate::all_equal;
+use format::Refusal;
 
-// The lesser of two numbers.
-fn lesser(a: u8, b: u8) -> u8
-    ensures { (result ≤ a) × (result ≤ b) }
+// The first of the track bytes from place p on whose two cell bytes are no legal pattern.
+// Stays as it is: no plainer as one function with `judge_bytes`: it would count an index and take the test of the two bytes at it as a closure, with a contract on a list of what that gives.
+fn judge_cells(p: usize, bit_cells: &[u8]) -> Result<(), Refusal>
+    requires { p + length bit_cells.now < 2 ^ 64 }
+    ensures { judged_fault result ≡ judge_each p (each_pattern legal_pattern bit_cells.now) }
 {
-    if b < a { b } else { a }
+    let (pairs, _) = bit_cells.as_chunks::<2>();
+    for (i, [x, y]) in pairs.iter().enumerate() {
+        if !pattern::legal_pattern(*x, *y) {
+            return Err(Refusal::PatternWrong(p + i));
+        }
+    }
+    Ok(())
 }
 
-// Whether every clock among these cell bytes is present, by one pass without a branch.
-fn all_clocked(bit_cells: &[u8]) -> bool
-    ensures { result ≡ true → Clocked bit_cells.now }
-{
-    let mut least: u8 = 0xAA;
-    let mut i = 0;
-    while i < bit_cells.len() {
-        least = lesser(least, bit_cells[i] & 0xAA);
-        i += 1;
-    }
-    least == 0xAA
-}
-
-// Whether a block of sixteen track bytes starts at place p, every sixteenth place, in which all clocks are present.
-fn block_clocked(bit_cells: &[u8], p: usize) -> bool
-    requires { 2 * p ≤ length bit_cells.now }
-    ensures { result ≡ true → LegalFrom 16 p bit_cells.now }
-{
-    if p % 16 != 0 {
-        return false;
-    }
-    let from = 2 * p;
-    if bit_cells.len() - from < 32 {
-        return false;
-    }
-    let to = from + 32;
-    all_clocked(&bit_cells[from..to])
-}
-
-// The first track byte whose two cell bytes are no legal pattern.
-fn judge_patterns(bit_cells: &[u8]) -> Fault
+// The first track byte whose two cell bytes are no legal pattern, by blocks of sixteen, of which those with all clocks are passed.
+// Stays as it is: no plainer as one function with `judge_marked`: a block is here the cell bytes of sixteen track bytes, and there thirty-two marks with the bytes beside them, so that both tests would be closures.
+fn judge_patterns(bit_cells: &[u8]) -> Result<(), Refusal>
     ensures { judged_fault result ≡ judge_each 0 (each_pattern legal_pattern bit_cells.now) }
 {
-    let n = bit_cells.len() / 2;
-    let mut i = 0;
-    while i < n {
-        if block_clocked(bit_cells, i) {
-            i += 16;
-            continue;
+    let (blocks, rest) = bit_cells.as_chunks::<32>();
+    for (k, block) in blocks.iter().enumerate() {
+        if !all_equal(block, 0xAA, 0xAA) {
+            judge_cells(16 * k, block)?;
         }
-        let at = 2 * i;
-        if !pattern::legal_pattern(bit_cells[at], bit_cells[at + 1]) {
-            return Fault::At(i);
-        }
-        i += 1;
     }
-    Fault::Nowhere
+    judge_cells(16 * blocks.len(), rest)
 }
 
 // Writes the track and the marks that the cell bytes stand for.
@@ -73,15 +46,11 @@ fn write_pair(bit_cells: &[u8], track: &mut [u8], marks: &mut [u8])
     ensures bytes { track.new ≡ each_pattern data_in bit_cells.now }
     ensures marks { marks.new ≡ each_pattern mark_in bit_cells.now }
 {
-    let n = track.len();
-    let mut i = 0;
-    while i < n {
-        let at = 2 * i;
-        let x = bit_cells[at];
-        let y = bit_cells[at + 1];
-        track[i] = pattern::data_in(x, y);
+    let (pairs, _) = bit_cells.as_chunks::<2>();
+    for (i, b) in track.iter_mut().enumerate() {
+        let [x, y] = pairs[i];
+        *b = pattern::data_in(x, y);
         marks[i] = pattern::mark_in(x, y);
-        i += 1;
     }
 }
 
@@ -96,18 +65,13 @@ fn lent_from(n: usize, l: usize, k: usize) -> bool
 }
 
 // From bit cells to a track and its marks: 1 and 17 leave every byte and mark as it was; 0 where both are written.
-pub fn from_cells(bit_cells: &[u8], track: &mut [u8], marks: &mut [u8]) -> format::Answer
+pub fn from_cells(bit_cells: &[u8], track: &mut [u8], marks: &mut [u8]) -> Result<(), Refusal>
     ensures { after (as_answer result) track.new marks.new ≡ leaves (from_cells bit_cells.now (length track.old) (length marks.old)) track.old marks.old }
 {
     if !lent_from(bit_cells.len(), track.len(), marks.len()) {
-        return format::lent_wrong();
+        return Err(Refusal::LentWrong);
     }
-    let fault = judge_patterns(bit_cells);
-    match fault {
-        Fault::At(p) => format::pattern_wrong(p),
-        Fault::Nowhere => {
-            write_pair(bit_cells, track, marks);
-            format::done()
-        }
-    }
+    judge_patterns(bit_cells)?;
+    write_pair(bit_cells, track, marks);
+    Ok(())
 }

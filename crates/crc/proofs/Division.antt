@@ -6,11 +6,11 @@ use native.Mathlib.Nat.{add-zero}
 use mathlib.Core.Bool.{Bool, true, false}
 use mathlib.Core.List.{List, [], ◌∷◌}
 use lib.Dec.{ltb, lit<}
-use lib.Bits.{bit_xor, xor_self, xor_zero_r, xor_block, xor_shifted, xor_shr}
+use lib.Bits.{bit_xor, xor_self, xor_zero_r, xor_block, xor_shifted, xor_shr, xor_assoc}
 use Rattle.base.specs.Pick.{pick}
 use Rattle.crc.specs.Check.{divisor, bring_down, remainder, coefficients}
 use Rattle.crc.specs.Division.{Digits, value, times, quotient}
-use Rattle.crc.proofs.Xor.{xor_middle, xor_assoc, xor_twice, xor_cancel, xor_zero_same}
+use Rattle.crc.proofs.Xor.{xor_middle, xor_twice, xor_cancel, xor_zero_same}
 use Rattle.crc.proofs.Coefficients.{coefficients_digits}
 use Rattle.crc.proofs.Remainder.{remainder_lt}
 

@@ -4,11 +4,11 @@ use Prim.Native.Nat.{ℕ, zero, suc, ◌+◌, ◌*◌, ◌/◌, ◌%◌, ◌≤�
 use native.Mathlib.Omega.{arith}
 use mathlib.Core.List.{List, [], ◌∷◌}
 use lib.ListN.{length, get_or, drop}
-use lib.Bits.{bit_xor, xor_shr, xor_mod, xor_block, xor_comm, xor_zero_r}
+use lib.Bits.{bit_xor, xor_shr, xor_mod, xor_block, xor_assoc, xor_comm, xor_zero_r}
 use Rattle.crc.specs.Check.{coefficients, remainder}
 use Rattle.crc.specs.Halves.{AllBytes, every_other, low_half, high_half}
 use Rattle.crc.specs.Word.{word, word_of, word_at, pair, lanes}
-use Rattle.crc.proofs.Xor.{xor_assoc, xor_middle}
+use Rattle.crc.proofs.Xor.{xor_middle}
 use Rattle.crc.proofs.Halves.{remainder_halves}
 use Rattle.crc.proofs.Cut.{drop_eight}
 use Rattle.crc.proofs.Parts.{remainder_parts}
@@ -38,12 +38,12 @@ rest_word : (a b w : ℕ) → a < 256 → b < 256 → (a + (b + w * 256) * 256) 
 rest_word a b w ha hb = omega arith
 
 -- The remainder of two bytes is the number that they make.
-remainder_two : (a b : ℕ) → a < 256 → b < 256 → remainder 0 (coefficients (a ∷ b ∷ [])) ≡ a * 256 + b
+pub remainder_two : (a b : ℕ) → a < 256 → b < 256 → remainder 0 (coefficients (a ∷ b ∷ [])) ≡ a * 256 + b
 unfolding high_half low_half every_other AllBytes
 remainder_two a b ha hb = remainder_halves (a ∷ b ∷ []) (ha, (hb, tt)) ∙ ap (λ (z : ℕ). a * 256 + z) (xor_zero_r b)
 
 -- The remainder of no bytes is 0.
-remainder_none : remainder 0 (coefficients []) ≡ 0
+pub remainder_none : remainder 0 (coefficients []) ≡ 0
 unfolding coefficients remainder
 remainder_none = refl
 
@@ -78,11 +78,6 @@ fold_lanes w two one e f =
     ∙ xor_middle p r q s
     ∙ xor_assoc p q (bit_xor r s)
     ∙ ap (λ (z : ℕ). bit_xor p (bit_xor q (bit_xor r z))) (sym (xor_zero_r s))
-
--- The lanes of no word are the remainder of no bytes.
-pub lanes_none : lanes 4 0 ≡ remainder 0 (coefficients [])
-unfolding lanes pair
-lanes_none = sym remainder_none
 
 -- Eight bytes as one number stand side by side.
 pub word_of_lem : (a b c d e f g h : ℕ) → word_of a b c d e f g h ≡ word (a ∷ b ∷ c ∷ d ∷ e ∷ f ∷ g ∷ h ∷ [])

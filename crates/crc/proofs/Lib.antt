@@ -15,6 +15,7 @@ pub mod Parts
 pub mod Cut
 pub mod Lanes
 pub mod Front
+pub mod Pieces
 pub mod Agreement
 pub mod Checked
 pub mod Burst

@@ -1,33 +1,7 @@
--- Exclusive or of numbers is associative, and what follows from that.
-use mathlib.Core.Path.{◌≡◌, refl, sym, ap, ap₂, ◌∙◌}
-use Prim.Native.Nat.{ℕ, zero, suc, ◌+◌, ◌*◌, ◌/◌, ◌%◌, ◌<◌}
-use native.Mathlib.Omega.{arith}
-use lib.Arith.{bin_ind}
-use lib.Bits.{bit_xor, xor_shr, xor_mod, xor_self, xor_comm}
-
--- Exclusive or of three binary digits is associative.
-digit_assoc : (x y z : ℕ) → x < 2 → y < 2 → z < 2 → bit_xor (bit_xor x y) z ≡ bit_xor x (bit_xor y z)
-digit_assoc zero y z hx hy hz = refl
-digit_assoc (suc zero) zero z hx hy hz = refl
-digit_assoc (suc zero) (suc zero) zero hx hy hz = refl
-digit_assoc (suc zero) (suc zero) (suc zero) hx hy hz = refl
-digit_assoc (suc zero) (suc zero) (suc (suc z)) hx hy hz = absurd (omega arith)
-digit_assoc (suc zero) (suc (suc y)) z hx hy hz = absurd (omega arith)
-digit_assoc (suc (suc x)) y z hx hy hz = absurd (omega arith)
-
--- Exclusive or goes by the halves of the two numbers and by their last digits.
-by_halves : (a b : ℕ) → bit_xor a b ≡ bit_xor (a / 2) (b / 2) * 2 + bit_xor (a % 2) (b % 2)
-by_halves a b = omega (arith, xor_shr a b 1, xor_mod a b 1)
-
--- Exclusive or is associative.
-pub xor_assoc : (a b c : ℕ) → bit_xor (bit_xor a b) c ≡ bit_xor a (bit_xor b c)
-xor_assoc = bin_ind (λ (a : ℕ). (b c : ℕ) → bit_xor (bit_xor a b) c ≡ bit_xor a (bit_xor b c)) (λ b c. refl)
-    (λ a ih b c.
-    by_halves (bit_xor a b) c
-    ∙ ap₂ (λ (x y : ℕ). x * 2 + y)
-    (ap (λ (z : ℕ). bit_xor z (c / 2)) (xor_shr a b 1) ∙ ih (b / 2) (c / 2) ∙ ap (bit_xor (a / 2)) (sym (xor_shr b c 1)))
-    (ap (λ (z : ℕ). bit_xor z (c % 2)) (xor_mod a b 1) ∙ digit_assoc (a % 2) (b % 2) (c % 2) (omega arith) (omega arith) (omega arith) ∙ ap (bit_xor (a % 2)) (sym (xor_mod b c 1)))
-    ∙ sym (by_halves a (bit_xor b c)))
+-- What follows from exclusive or of numbers being associative.
+use mathlib.Core.Path.{◌≡◌, sym, ap, ◌∙◌}
+use Prim.Native.Nat.{ℕ}
+use lib.Bits.{bit_xor, xor_assoc, xor_self, xor_comm}
 
 -- Of four numbers the two in the middle may change places.
 pub xor_middle : (a b c d : ℕ) → bit_xor (bit_xor a b) (bit_xor c d) ≡ bit_xor (bit_xor a c) (bit_xor b d)

@@ -1,4 +1,3 @@
 -- What the proofs of the functions share.
 pub mod Marks
 pub mod Pieces
-pub mod Outcome

@@ -1,3 +1,2 @@
--- What the code of reading lends, judges and unpacks, in terms of the definitions.
-pub mod Bits
+-- What the code of reading lends and judges, in terms of the definitions.
 pub mod Reading

@@ -6,4 +6,4 @@ mod reading;
 mod table;
 mod unpacking;
 
-pub use reading::{Reading, read_cylinder};
+pub use reading::read_cylinder;

@@ -1,2 +1,3 @@
 -- What the proofs of the functions share.
-pub mod Outcome
+pub mod Octets
+pub mod Pieces

@@ -22,11 +22,3 @@ second_short n l k h = and_right (leb n l) (lt-leb n k h)
 -- A gap fits where its end is not before its start and both parts reach to its end.
 pub gap_fits_lem : (from to l k : ℕ) → from ≤ to → to ≤ l → to ≤ k → gap_fits from to l k ≡ true
 gap_fits_lem from to l k e g h = rw (le-leb from to e) (both_fit_lem to l k g h)
-
--- It does not where its end is before its start.
-pub gap_backward : (from to l k : ℕ) → to < from → gap_fits from to l k ≡ false
-gap_backward from to l k h = rw (lt-leb from to h)
-
--- It does not where its end is not in both parts.
-pub gap_unfit : (from to l k : ℕ) → both_fit to l k ≡ false → gap_fits from to l k ≡ false
-gap_unfit from to l k e = and_right (leb from to) e

@@ -6,7 +6,7 @@ use mathlib.Core.Bool.{true, false}
 use mathlib.Core.List.{List, [], ◌∷◌, ◌++◌, append_assoc, append-nil}
 use lib.ListN.{length, replicate, length-append}
 use lib.Dec.{lit<}
-use borrow.Author.Tests.{le-leb, lt-leb, lt-ltb}
+use borrow.Author.Tests.{leb-true, le-leb, lt-ltb}
 use Rattle.format.specs.Lent.{bytes_of, marks_of, unmarked}
 use Rattle.format.specs.Opening.{closing}
 use Rattle.format.specs.Address.{address_bytes}
@@ -23,9 +23,21 @@ use Rattle.format.proofs.Written.WrittenHome.{head_length_holds}
 use Rattle.encode.specs.Room.{address_of, both_fit, sector_fits}
 use Rattle.encode.specs.Bytes.{count_bytes}
 use Rattle.encode.proofs.Room.{both_fit_lem}
-use Rattle.base.proofs.Tests.{and_right}
+use Rattle.base.proofs.Tests.{and_both, and_right}
 use Rattle.encode.proofs.Openings.{length_opening}
 use Rattle.encode.proofs.Cells.{bytes_append, marks_append, marks_unmarked}
+
+-- Content within the rule.
+pub content_bounds : (key body : List ℕ) → content_right key body ≡ true → (length key ≤ 255) × (length body ≤ 65535)
+unfolding content_right
+content_bounds key body e =
+    let h = and_both _ _ e in
+    (leb-true (length key) 255 h.0, leb-true (length body) 65535 h.1)
+
+-- And such content is within the rule.
+pub content_within : (key body : List ℕ) → (length key ≤ 255) × (length body ≤ 65535) → content_right key body ≡ true
+unfolding content_right
+content_within key body h = rw (le-leb (length key) 255 h.0, le-leb (length body) 65535 h.1)
 
 -- What a written count takes.
 pub count_length_lem : (s : Sector) → length (count_bytes s) ≡ opening_length s.first + 12
@@ -63,15 +75,10 @@ sector_marks s n q f k d =
     (marks_unmarked (written_rest s []) (sector_rest s f k d) ∙ ap (λ (n : ℕ). replicate n 0) z)
 
 module _ (s : Sector) (l k : ℕ) where
-  -- A sector with too long a key is refused.
-  pub key_long : 255 < length s.key_bytes → sector_fits s l k ≡ false
-  unfolding sector_fits content_right
-  key_long h = rw (lt-leb (length s.key_bytes) 255 h)
-
-  -- A sector with too long data is refused.
-  pub data_long : length s.key_bytes ≤ 255 → 65535 < length s.data_bytes → sector_fits s l k ≡ false
-  unfolding sector_fits content_right
-  data_long g h = rw (le-leb (length s.key_bytes) 255 g, lt-leb (length s.data_bytes) 65535 h)
+  -- A sector with too long a key or too long data is refused.
+  pub content_unfit : content_right s.key_bytes s.data_bytes ≡ false → sector_fits s l k ≡ false
+  unfolding sector_fits
+  content_unfit e = rw e
 
   -- A sector that does not fit is refused.
   pub sector_unfit : (n : ℕ) → n ≡ length (written_sector s) → both_fit n l k ≡ false → sector_fits s l k ≡ false
@@ -79,10 +86,10 @@ module _ (s : Sector) (l k : ℕ) where
   sector_unfit n q e = and_right (content_right s.key_bytes s.data_bytes) (ap (λ (m : ℕ). both_fit m l k) (sym q) ∙ e)
 
   -- Any other is written.
-  pub sector_fits_lem : (n : ℕ) → n ≡ length (written_sector s) → length s.key_bytes ≤ 255 → length s.data_bytes ≤ 65535 → n ≤ l → n ≤ k → sector_fits s l k ≡ true
-  unfolding sector_fits content_right
-  sector_fits_lem n q g h u v =
-      rw (le-leb (length s.key_bytes) 255 g, le-leb (length s.data_bytes) 65535 h)
+  pub sector_fits_lem : (n : ℕ) → n ≡ length (written_sector s) → content_right s.key_bytes s.data_bytes ≡ true → n ≤ l → n ≤ k → sector_fits s l k ≡ true
+  unfolding sector_fits
+  sector_fits_lem n q e u v =
+      rw e
       (both_fit_lem (length (written_sector s)) l k (omega arith) (omega arith))
 
 module _ (flag cylinder head : ℕ) (f : flag < 256) (c : cylinder < 65536) (h : head < 65536) where

@@ -3,6 +3,7 @@ use Rattle.std.specs.Prelude.{ℕ, Bool, ◌&&◌, List, length, leb}
 use Rattle.format.specs.Address.{Address}
 use Rattle.format.specs.Sector.{Sector, content_right}
 use Rattle.format.specs.Written.{written_sector}
+use Rattle.encode.specs.declared.Sector.{Sector as SectorCode}
 
 -- C and H as an address.
 abbrev pub address_of : ℕ → ℕ → Address
@@ -12,6 +13,10 @@ address_of cylinder head = record { cylinder = cylinder; head = head }
 abbrev pub sector_from : Bool → ℕ → ℕ → ℕ → ℕ → List ℕ → List ℕ → Sector
 sector_from first flag cylinder head s key body =
     record { first = first; flag = flag; address = address_of cylinder head; number = s; key_bytes = key; data_bytes = body }
+
+-- The format's sector that a value of the code stands for.
+abbrev pub as_sector : SectorCode → Sector
+as_sector x = sector_from x.first x.flag x.cylinder x.head x.number x.key.now x.body.now
 
 -- A list of n cells fits in both parts.
 abbrev pub both_fit : ℕ → ℕ → ℕ → Bool

@@ -1,8 +1,10 @@
 -- The answer of a call: its number, its second number and its place, with one name for each row of the table.
-use Rattle.std.specs.Prelude.{ℕ}
+use Rattle.std.specs.Prelude.{ℕ, Result, Ok, Err}
 use Rattle.format.specs.Layout.{home_first}
-use Rattle.format.specs.Fault.{Fault, fault_number}
+use Rattle.format.specs.Fault.{Fault, fault_number, as_fault}
 use Rattle.format.specs.declared.Answer.{Answer as AnswerCode}
+use Rattle.format.specs.declared.Refusal.{Refusal}
+use Rattle.format.specs.declared.Refusal.TheVariants.{LentWrong, HomeMissing, HomeCheckWrong, HomeFieldsWrong, MarkStray, FirstCountMissing, CountCheckWrong, CountFieldsWrong, SpanTooShort, KeyWrong, DataWrong, SectorMissing, SectorRepeated, WantedWrong, RoomMissing, PairWrong, PatternWrong, HeaderWrong, OffsetWrong, FileLengthWrong, SpareBitsSet, BufferTooShort}
 
 -- An answer: the number of its row in the table, the second number, and the place that it speaks of, in bytes after index.
 pub record Answer : Type 0 where
@@ -19,13 +21,9 @@ answer_at n p = record { number = n; fault = 0; place = p }
 abbrev pub fault_at : ℕ → Fault → ℕ → Answer
 fault_at n f p = record { number = n; fault = fault_number f; place = p }
 
--- The answer that a value of the code stands for.
-abbrev pub as_answer : AnswerCode → Answer
-as_answer a = record { number = a.number; fault = a.fault; place = a.place }
-
--- The value of the code that stands for an answer.
-abbrev pub coded : Answer → AnswerCode
-coded a = record { number = a.number; fault = a.fault; place = a.place }
+-- The answer that the numbers of the code stand for.
+abbrev pub as_numbers : AnswerCode → Answer
+as_numbers a = record { number = a.number; fault = a.fault; place = a.place }
 
 -- 0: done.
 abbrev pub done : Answer
@@ -118,3 +116,38 @@ spare_bits_set = answer_at 21 0
 -- 24: a slice or list lent for writing is too short.
 abbrev pub buffer_too_short : Answer
 buffer_too_short = answer_at 24 0
+
+-- The answer that a refusal of the code stands for.
+abbrev pub as_refusal : Refusal → Answer
+as_refusal LentWrong = lent_wrong
+as_refusal HomeMissing = home_missing
+as_refusal (HomeCheckWrong p) = home_check_wrong p
+as_refusal (HomeFieldsWrong p) = home_fields_wrong p
+as_refusal (MarkStray p) = mark_stray p
+as_refusal (FirstCountMissing p) = first_count_missing p
+as_refusal (CountCheckWrong p) = count_check_wrong p
+as_refusal (CountFieldsWrong p) = count_fields_wrong p
+as_refusal (SpanTooShort p) = span_too_short p
+as_refusal (KeyWrong f p) = key_wrong (as_fault f) p
+as_refusal (DataWrong f p) = data_wrong (as_fault f) p
+as_refusal SectorMissing = sector_missing
+as_refusal (SectorRepeated p) = sector_repeated p
+as_refusal WantedWrong = wanted_wrong
+as_refusal RoomMissing = room_missing
+as_refusal PairWrong = pair_wrong
+as_refusal (PatternWrong p) = pattern_wrong p
+as_refusal HeaderWrong = header_wrong
+as_refusal OffsetWrong = offset_wrong
+as_refusal FileLengthWrong = file_length_wrong
+as_refusal SpareBitsSet = spare_bits_set
+as_refusal BufferTooShort = buffer_too_short
+
+-- The answer of an outcome of the code: 0 where it is done, else that of its refusal.
+abbrev pub as_answer : {A : Type 0} → Result A Refusal → Answer
+as_answer (Ok x) = done
+as_answer (Err e) = as_refusal e
+
+-- The number that an outcome of the code hands back, 0 where it refuses.
+abbrev pub given : Result ℕ Refusal → ℕ
+given (Ok n) = n
+given (Err e) = 0

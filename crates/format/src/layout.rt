@@ -1,4 +1,6 @@
 // The layout of a track: the openings, and the lengths that all places are made of.
+ghost use Rattle.std.specs.Prelude.{◌≡◌, ◌≤◌};
+ghost use Rattle.format.specs.Sector.{opening_length};
 
 // The opening of home, of sector 0's count, of keys and of data blocks; none of its bytes is marked.
 pub const PLAIN_OPENING: [u8; 6] = [0x00, 0x00, 0x00, 0x00, 0xFF, 0x0E];
@@ -29,6 +31,14 @@ pub const HOME_LAST: usize = 37;
 pub const PLAIN: usize = 6;
 
 pub const MARKED: usize = 8;
+
+// The length of the opening of a count: six bytes in sector 0, else eight.
+pub fn opening_length(first: bool) -> usize
+    ensures value { result ≡ opening_length first }
+    ensures upper_bound { result ≤ 8 }
+{
+    if first { PLAIN } else { MARKED }
+}
 
 // The information of home and of a count.
 pub const HOME_INFO: usize = 5;

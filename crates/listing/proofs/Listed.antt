@@ -1,6 +1,6 @@
 -- The records that are come to from sector 0's count on are those of List, and their number is at most the list's length.
 use mathlib.Core.Path.{◌≡◌, refl, sym, ap, ap₂, ◌∙◌, subst}
-use Prim.Native.Nat.{ℕ, zero, suc, ◌+◌, ◌-◌, ◌≤◌}
+use Prim.Native.Nat.{ℕ, ◌+◌, ◌-◌, ◌≤◌}
 use native.Mathlib.Omega.{arith}
 use mathlib.Core.List.{List, [], ◌∷◌, ◌++◌, map}
 use lib.ListN.{length, drop}
@@ -12,6 +12,7 @@ use Rattle.format.specs.Lent.{cells}
 use Rattle.format.specs.Home.{first_count_place}
 use Rattle.format.specs.Accept.{Placed, end_of, Accepted, accept}
 use Rattle.format.specs.Listing.{Listed, next_place, listed, most_sectors, list}
+use Rattle.std.proofs.lemmas.List.{map-append, drop-map}
 use Rattle.base.proofs.Tests.{cases}
 use Rattle.format.proofs.Track.Sectors.{list_suffices}
 use Rattle.format.proofs.Track.ListAccepted.{list_records, list_number, list_refuses, list_short}
@@ -50,12 +51,6 @@ run_listed t m p [] h = refl
 run_listed t m p (x ∷ xs) h =
     let v = come t m p x xs h in
     ap₂ {C = List Listed} (λ y ys. y ∷ ys) v.listed_is (run_listed t m (next (cells t m) p) xs v.later)
-
-map_append_drop : (n : ℕ) (xs ys : List Sector) → as_records (xs ++ drop n ys) ≡ as_records xs ++ drop n (as_records ys)
-map_append_drop n (x ∷ xs) ys = ap {B = List Listed} (λ r. as_listed x ∷ r) (map_append_drop n xs ys)
-map_append_drop zero [] ys = refl
-map_append_drop (suc n) [] [] = refl
-map_append_drop (suc n) [] (y ∷ ys) = map_append_drop n [] ys
 
 -- What List makes of the lent pair t, m for a list of n.
 pub record Listing (n : ℕ) (t m : List ℕ) : Type 0 where
@@ -99,5 +94,5 @@ pub filled_run : (n : ℕ) (t m : List ℕ) (ys : List Sector)
 unfolding filled
 filled_run n t m ys =
     let k : ℕ = length (records_of (list n t m)) in
-    map_append_drop k (run (value (cells t m)) (next (cells t m)) (first_for n t m) k) ys
-    ∙ ap (λ (r : List Listed). r ++ drop k (as_records ys)) (listing n t m).records_are
+    map-append as_listed (run (value (cells t m)) (next (cells t m)) (first_for n t m) k) (drop k ys)
+    ∙ ap₂ (λ (r s : List Listed). r ++ s) (listing n t m).records_are (sym (drop-map as_listed k ys))

@@ -1,15 +1,14 @@
 -- List into the caller's records: which are filled, with what, and what stays.
-use Rattle.std.specs.Prelude.{ℕ, ◌-◌, List, [], ◌++◌, map, length, drop, leb}
-use Rattle.format.specs.declared.Answer.{Answer}
-use Rattle.format.specs.Answer.{coded, lent_wrong}
-use Rattle.format.specs.Judged.{Judged, good, then, require, answer_of, value_or}
+use Rattle.std.specs.Prelude.{ℕ, ◌-◌, List, [], ◌++◌, map, length, drop, leb, Result, Ok, Err}
+use Rattle.format.specs.declared.Refusal.{Refusal}
+use Rattle.format.specs.Answer.{as_refusal, lent_wrong}
+use Rattle.format.specs.Judged.{Judged, good, refused, then, require, value_or}
 use Rattle.format.specs.Home.{first_count_place}
 use Rattle.format.specs.Accept.{accept}
 use Rattle.format.specs.Listing.{Listed, most_sectors, list}
 use Rattle.sectors.specs.SectorAt.{SectorAt, sector_at}
 use Rattle.listing.specs.declared.Sector.{Sector}
 use Rattle.listing.specs.declared.SectorNext.{SectorNext}
-use Rattle.listing.specs.declared.Listing.{Listing}
 use Rattle.listing.specs.declared.Begun.{Begun}
 
 -- What a record of the code says.
@@ -64,17 +63,14 @@ first_count t m = then (accept t m) (λ a. good (first_count_place a.home.place)
 unfoldable pub first_for : ℕ → List ℕ → List ℕ → ℕ
 first_for n t m = value_or 0 (require (leb most_sectors n) lent_wrong (first_count t m))
 
--- The answer and the number of records of an outcome.
-abbrev pub as_listing : Judged (List Listed) → Listing
-as_listing j = record { answer = coded (answer_of j); count = length (records_of j) }
+-- What the code has settled, or the answer that refuses.
+abbrev pub judged_begun : Result Begun Refusal → Judged Begun
+judged_begun (Ok b) = good b
+judged_begun (Err e) = refused (as_refusal e)
 
--- What is settled where the answer a refuses: no record.
-abbrev pub refused_by : Answer → Begun
-refused_by a = record { listing = record { answer = a; count = 0 }; first = 0 }
-
--- What is settled before any record is filled.
-abbrev pub begun : ℕ → List ℕ → List ℕ → Begun
-begun n t m = record { listing = as_listing (list n t m); first = first_for n t m }
+-- What is settled before any record is filled: the number of records of the outcome, and the place of sector 0's count; or the answer that refuses.
+abbrev pub begun : ℕ → List ℕ → List ℕ → Judged Begun
+begun n t m = then (list n t m) (λ rs. good (record { count = length rs; first = first_for n t m }))
 
 -- A record of a list that no sector has filled yet.
 abbrev pub empty : Sector

@@ -1,5 +1,5 @@
--- Values made of one place after the other, and a list in which they are stored.
-use Rattle.std.specs.Prelude.{ℕ, zero, suc, ◌+◌, List, [], ◌∷◌, set}
+-- Values made of one place after the other.
+use Rattle.std.specs.Prelude.{ℕ, zero, suc, List, [], ◌∷◌}
 
 -- `value` makes a value of a place, and `next` gives the place after it.
 module _ {A : Type 0} (value : ℕ → A) (next : ℕ → ℕ) where
@@ -7,8 +7,3 @@ module _ {A : Type 0} (value : ℕ → A) (next : ℕ → ℕ) where
   abbrev pub run : ℕ → ℕ → List A
   run p zero = []
   run p (suc n) = value p ∷ run (next p) n
-
-  -- The list xs with these values stored from index i on.
-  abbrev pub stored : ℕ → ℕ → ℕ → List A → List A
-  stored p i zero xs = xs
-  stored p i (suc n) xs = stored (next p) (i + 1) n (set xs i (value p))

@@ -1,17 +1,21 @@
 // List: an accepted track's sectors as records in a list that the caller lends.
 #![tactic(auto)]
 
-ghost use Rattle.std.specs.Prelude.{◌≡◌, ◌-◌, length, replicate};
-ghost use Rattle.format.specs.Answer.{as_answer};
+ghost use Rattle.std.specs.Prelude.{◌≡◌, ◌≤◌, IfOk, length, replicate};
+ghost use Rattle.format.specs.Answer.{as_answer, given};
 ghost use Rattle.format.specs.Judged.{answer_of};
 ghost use Rattle.format.specs.Lent.{cells};
 ghost use Rattle.format.specs.Listing.{most_sectors, list};
-ghost use Rattle.listing.specs.Filling.{records_of, as_records, filled, record_at, refused_by, begun, empty};
+ghost use Rattle.listing.specs.Filling.{records_of, as_records, filled, record_at, judged_begun, begun, empty};
 
+use format::Refusal;
 use format::layout::HOME_TO_COUNT;
 
+// No track holds more sectors; a list for fewer records is refused.
+pub const MOST_SECTORS: usize = 67;
+
 // A sector record: flag, S, KL, DL, the places of the information, the key's 0 where KL = 0, the place after the data block's last byte, and how many bytes of gap follow it.
-#[derive(Clone, Copy)]
+#[derive(Clone, Copy, Default)]
 pub struct Sector {
     pub flag: u8,
     pub number: u8,
@@ -23,13 +27,6 @@ pub struct Sector {
     pub gap: usize,
 }
 
-// The answer, and the number of records that are filled: 0 where the list or the track is refused.
-#[derive(Clone, Copy)]
-pub struct Listing {
-    pub answer: format::Answer,
-    pub count: usize,
-}
-
 // A sector record, and the place at which the next count opens.
 #[derive(Clone, Copy)]
 pub struct SectorNext {
@@ -37,21 +34,11 @@ pub struct SectorNext {
     pub next: usize,
 }
 
-// What is settled before any record is filled: the listing, and the place of sector 0's count.
+// What is settled before any record is filled: the number of sectors, and the place of sector 0's count.
 #[derive(Clone, Copy)]
 pub struct Begun {
-    pub listing: Listing,
+    pub count: usize,
     pub first: usize,
-}
-
-// How many bytes stand between two places: none where the second is not behind the first.
-fn bytes_between(from: usize, to: usize) -> usize
-    ensures { result ≡ to - from }
-{
-    if to < from {
-        return 0;
-    }
-    to - from
 }
 
 // The record of the sector whose count opens at place p.
@@ -67,7 +54,7 @@ fn record_at(track: &[u8], marks: &[u8], p: usize) -> SectorNext
         key_place: s.key_place,
         data_place: s.data_place,
         end: s.end,
-        gap: bytes_between(s.end, s.next),
+        gap: s.next.saturating_sub(s.end),
     };
     SectorNext {
         sector,
@@ -75,77 +62,52 @@ fn record_at(track: &[u8], marks: &[u8], p: usize) -> SectorNext
     }
 }
 
-// No record is filled, and this is the answer.
-fn refused(answer: format::Answer) -> Begun
-    ensures { result ≡ refused_by answer }
+// What is settled for a list of n: 1 for a list under 67 before anything else, then Accept's own answers.
+fn begin(track: &[u8], marks: &[u8], n: usize) -> Result<Begun, Refusal>
+    ensures result_value { judged_begun result ≡ begun n track.now marks.now }
+    ensures count_fits { IfOk result (λ b. b.count ≤ n) }
 {
-    let listing = Listing { answer, count: 0 };
-    Begun { listing, first: 0 }
+    if n < MOST_SECTORS {
+        return Err(Refusal::LentWrong);
+    }
+    let home = accepting::judge(track, marks)?;
+    let first = home.place + HOME_TO_COUNT;
+    let count = sectors::sector_count(track, marks, first);
+    Ok(Begun { count, first })
 }
 
-// The answer and the number of records for a list of n: 1 for a list under 67 before anything else, then Accept's own answers.
-fn begin(track: &[u8], marks: &[u8], n: usize) -> Begun
-    ensures { result ≡ begun n track.now marks.now }
-{
-    if n < 67 {
-        return refused(format::lent_wrong());
-    }
-    let judged = accepting::judge(track, marks);
-    match judged {
-        accepting::Judged::Accepted(h) => {
-            let first = h.place + HOME_TO_COUNT;
-            let count = sectors::sector_count(track, marks, first);
-            let answer = format::done();
-            let listing = Listing { answer, count };
-            Begun { listing, first }
-        }
-        accepting::Judged::Refused(a) => refused(a),
-    }
-}
-
-// Fills the first records of the list with the sectors of an accepted track from left to right; every other record stays.
-pub fn list(track: &[u8], marks: &[u8], out: &mut [Sector]) -> Listing
-    ensures answer_value { as_answer result.answer ≡ answer_of (list (length out.old) track.now marks.now) }
-    ensures count_value { result.count ≡ length (records_of (list (length out.old) track.now marks.now)) }
+// Fills the first records of the list with the sectors of an accepted track from left to right, and returns how many; every other record stays.
+pub fn list(track: &[u8], marks: &[u8], out: &mut [Sector]) -> Result<usize, Refusal>
+    ensures answer_value { as_answer result ≡ answer_of (list (length out.old) track.now marks.now) }
+    ensures count_value { given result ≡ length (records_of (list (length out.old) track.now marks.now)) }
+    ensures count_fits { IfOk result (λ k. k ≤ length out.old) }
     ensures out_after { as_records out.new ≡ filled (list (length out.old) track.now marks.now) (as_records out.old) }
 {
-    let b = begin(track, marks, out.len());
-    let n = b.listing.count;
-    let mut at = b.first;
-    let mut i: usize = 0;
-    while i < n {
+    let Begun { count, first } = begin(track, marks, out.len())?;
+    let mut at = first;
+    for record in out[..count].iter_mut() {
         let x = record_at(track, marks, at);
-        out[i] = x.sector;
+        *record = x.sector;
         at = x.next;
-        i = i + 1;
     }
-    b.listing
+    Ok(count)
 }
 
-// A listing with its records, the first `count` of 67.
+// The number of records that are filled, with all 67 of them.
 #[derive(Clone, Copy)]
 pub struct Filled {
-    pub listing: Listing,
-    pub records: [Sector; 67],
+    pub listing: Result<usize, Refusal>,
+    pub records: [Sector; MOST_SECTORS],
 }
 
 // List into 67 empty records, which are handed back by value.
 pub fn list_all(track: &[u8], marks: &[u8]) -> Filled
-    ensures answer_value { as_answer result.listing.answer ≡ answer_of (list most_sectors track.now marks.now) }
-    ensures count_value { result.listing.count ≡ length (records_of (list most_sectors track.now marks.now)) }
+    ensures answer_value { as_answer result.listing ≡ answer_of (list most_sectors track.now marks.now) }
+    ensures count_value { given result.listing ≡ length (records_of (list most_sectors track.now marks.now)) }
+    ensures count_fits { IfOk result.listing (λ k. k ≤ most_sectors) }
     ensures records_value { as_records result.records ≡ filled (list most_sectors track.now marks.now) (as_records (replicate most_sectors empty)) }
 {
-    let none = Sector {
-        flag: 0,
-        number: 0,
-        key_length: 0,
-        data_length: 0,
-        key_place: 0,
-        data_place: 0,
-        end: 0,
-        gap: 0,
-    };
-    let mut records = [none; 67];
+    let mut records = [Sector::default(); MOST_SECTORS];
     let listing = list(track, marks, &mut records);
     Filled { listing, records }
 }

@@ -1,9 +1,9 @@
 // The bit cells of one byte, as two cell bytes: what they stand for, and how they are made.
 #![tactic(auto)]
 
-ghost use Rattle.std.specs.Prelude.{◌≡◌, ◌≤◌};
+ghost use Rattle.std.specs.Prelude.{◌≡◌, ◌≤◌, replicate};
 ghost use Rattle.crc.specs.Check.{digits};
-ghost use Rattle.pattern.specs.Pattern.{as_byte, first_cells, second_cells, clocks_for, data_cells, data_in, legal_pattern, mark_in};
+ghost use Rattle.pattern.specs.Pattern.{alternating, as_byte, first_cells, second_cells, clocks_for, data_cells, data_in, legal_pattern, mark_in};
 
 // Whether two cell bytes are a legal pattern: all eight clocks, or FF without its first five.
 pub fn legal_pattern(x: u8, y: u8) -> bool
@@ -45,11 +45,19 @@ pub fn mark_in(x: u8, y: u8) -> u8
     0
 }
 
+// The cell byte of the four low bits of a byte, with no clock.
+fn half_cells(b: u8) -> u8
+    ensures value { result ≡ as_byte (alternating (replicate 4 0) (digits 4 b)) }
+    ensures upper_bound { result ≤ 0x55 }
+{
+    b / 8 % 2 * 64 + b / 4 % 2 * 16 + b / 2 % 2 * 4 + b % 2
+}
+
 // The first cell byte of a byte with its mark, which takes away all its four clocks.
 pub fn first_cells(b: u8, mark: u8) -> u8
     ensures { result ≡ first_cells (clocks_for mark) b }
 {
-    let data = b / 128 % 2 * 64 + b / 64 % 2 * 16 + b / 32 % 2 * 4 + b / 16 % 2;
+    let data = half_cells(b / 16);
     if mark == 0 {
         return 0xAA + data;
     }
@@ -60,7 +68,7 @@ pub fn first_cells(b: u8, mark: u8) -> u8
 pub fn second_cells(b: u8, mark: u8) -> u8
     ensures { result ≡ second_cells (clocks_for mark) b }
 {
-    let data = b / 8 % 2 * 64 + b / 4 % 2 * 16 + b / 2 % 2 * 4 + b % 2;
+    let data = half_cells(b);
     if mark == 0 {
         return 0xAA + data;
     }

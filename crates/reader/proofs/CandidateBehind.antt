@@ -4,6 +4,7 @@ use Prim.Native.Nat.{ℕ, zero, suc, ◌+◌, ◌-◌, ◌≤◌, ◌<◌}
 use native.Mathlib.Omega.{arith}
 use mathlib.Core.Bool.{true, false, ◌&&◌}
 use mathlib.Core.List.{List, [], ◌∷◌}
+use Rattle.std.specs.Prelude.{Option, Some, None, is_some}
 use lib.Dec.{leb, eqb}
 use lib.ListN.{length, take, drop, length-drop}
 use lib.Seq.{drop-drop}
@@ -19,8 +20,6 @@ use Rattle.base.proofs.Tests.{cases, and_both}
 use Rattle.format.proofs.Cells.Opening.{length_opens, opening_alone}
 use Rattle.format.proofs.Find.CandidateBytes.{span_rest_length}
 use Rattle.search.specs.Place.{judged_place, InWindow}
-use Rattle.search.specs.declared.Found.{Found}
-use Rattle.search.specs.declared.Found.TheVariants.{At, Nowhere}
 use Rattle.search.proofs.Jump.{no_opening, no_opening_left, run_drop}
 use Rattle.reader.specs.Finding.{standing_at}
 use Rattle.reader.proofs.CandidateNext.{candidates_at}
@@ -81,11 +80,17 @@ past_opening_cells a p c l o =
         ap opens (drop-drop i p c ∙ ap (λ (q : ℕ). drop q c) j ∙ sym (drop-drop (suc i) (p - 1) c))
         ∙ within_opening (drop (p - 1) c) (suc i) o (omega arith) (omega arith)
 
+-- The same of a home that was not found.
+pub past_opening_absent : (h : Option ℕ) (p : ℕ) (c : List ℕ) → is_some h ≡ false → 0 < p → opens (drop (p - 1) c) ≡ true
+    → candidates_at (judged_place h) p c ≡ candidates_at (judged_place h) (p + 7) c
+past_opening_absent (Some q) p c n l o = cc
+past_opening_absent None p c n l o = past_opening_cells home_missing p c l o
+
 -- The first of the candidates of c, which starts at place p, stands at its place.
 first_stands : (h : Judged ℕ) (p : ℕ) (c : List ℕ) (x : Candidate) → x ∷ [] ≡ take 1 (candidates_from h p c)
     → (p ≤ x.place) × (x ∷ [] ≡ standing_at h x.place (drop (x.place - p) c))
 unfolding candidates_from standing_at candidate_at
-first_stands h p [] x e = absurd (let z : ◌≡◌ {A = ℕ} 0 1 = cc in omega arith)
+first_stands h p [] x e = cc
 first_stands h p (y ∷ c) x e =
     cases (stands_at h p (y ∷ c))
     (λ s. let z : Candidate = candidate_at (first_opens_at h p (y ∷ c)) p (y ∷ c) in
@@ -119,15 +124,15 @@ later_stands h p c x f e =
     let a : x ∷ [] ≡ pick (opens c && count_passes y) (y ∷ []) [] = rw f at e in
     cases (opens c && count_passes y)
     (λ s. let b : x ∷ [] ≡ y ∷ [] = rw s at a in later_is p c x s (cc))
-    (λ s. absurd (let b : x ∷ [] ≡ [] = rw s at a in let z : ◌≡◌ {A = ℕ} 0 1 = cc in omega arith))
+    (λ s. let b : x ∷ [] ≡ [] = rw s at a in cc)
 
 -- Sector 0's count opens at no place behind the last one of home's window.
-first_before : (f : Found) (p r : ℕ) → InWindow f → 62 < p → FirstElsewhere (judged_place f) p r
-first_before (At h) p r w l = first_outside h p r (λ i u. omega (arith, w.1))
-first_before Nowhere p r w l = first_nowhere home_missing p r
+first_before : (f : Option ℕ) (p r : ℕ) → InWindow f → 62 < p → FirstElsewhere (judged_place f) p r
+first_before (Some h) p r w l = first_outside h p r (λ i u. omega (arith, w.1))
+first_before None p r w l = first_nowhere home_missing p r
 
 -- The first candidate from place p on is x.
-module _ (f : Found) (p : ℕ) (c : List ℕ) (x : Candidate) (w : InWindow f) (e : x ∷ [] ≡ take 1 (candidates_at (judged_place f) p c)) where
+module _ (f : Option ℕ) (p : ℕ) (c : List ℕ) (x : Candidate) (w : InWindow f) (e : x ∷ [] ≡ take 1 (candidates_at (judged_place f) p c)) where
   later_here : 62 < x.place → Later (drop x.place c) x
   later_here l =
       let h = judged_place f in

@@ -67,7 +67,7 @@ kept_behind f h p y c x q r =
 
 kept_first : (f : Candidate → Bool) (h : Judged ℕ) (p : ℕ) (c : List ℕ) (x : Candidate) → x ∷ [] ≡ take 1 (kept f (candidates_from h p c)) → KeptFirst f h p c x
 unfolding candidates_from candidate_at
-kept_first f h p [] x e = absurd (let z : ◌≡◌ {A = ℕ} 0 1 = cc in omega arith)
+kept_first f h p [] x e = cc
 kept_first f h p (y ∷ c) x e =
     let z : Candidate = candidate_at (first_opens_at h p (y ∷ c)) p (y ∷ c) in
     cases (stands_at h p (y ∷ c))
@@ -115,4 +115,4 @@ carrying_first s h p c x e =
 -- Where the first is missing there is none.
 pub none_first : (xs : List Candidate) → [] ≡ take 1 xs → xs ≡ []
 none_first [] e = refl
-none_first (x ∷ xs) e = absurd (let z : ◌≡◌ {A = ℕ} 0 1 = cc in omega arith)
+none_first (x ∷ xs) e = cc

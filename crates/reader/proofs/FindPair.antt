@@ -9,7 +9,8 @@ use lib.Seq.{get_or-drop}
 use lib.Dec.{eqb}
 use borrow.Author.Tests.{eq-eqb, ne_eqb}
 use Rattle.base.specs.Pick.{pick}
-use Rattle.format.specs.Answer.{Answer, lent_wrong, first_count_missing, pair_wrong}
+use Rattle.format.specs.Answer.{Answer, done, as_refusal, lent_wrong, first_count_missing, pair_wrong}
+use Rattle.format.specs.declared.Refusal.{Refusal}
 use Rattle.format.specs.Judged.{Judged, good, refused, then, answer_of}
 use Rattle.format.specs.Lent.{lent_for_reading, cells}
 use Rattle.format.specs.Opening.{starts_with, plain_opening}
@@ -25,11 +26,7 @@ use Rattle.format.specs.Blocks.{Wanted}
 use Rattle.format.specs.PairFind.{of_first, of_second, from_first_count, named_track, judge_first_count, judge_first, pair_agrees, find_on_second, find_by_flag, pair_find}
 use Rattle.base.proofs.Tests.{and_right, eqb_comm}
 use Rattle.accepting.proofs.AcceptAnswers.{count_zero}
-
--- An outcome whose answer is not 0 is that refusal.
-refused_is : {A : Type 0} (j : Judged A) (a : Answer) → a ≡ answer_of j → (a.number ≡ 0 → ⊥) → j ≡ refused a
-refused_is (good x) a e n = absurd (n (ap (λ (b : Answer). b.number) e))
-refused_is (refused b) a e n = ap (λ (z : Answer). refused z) (sym e)
+use Rattle.reader.proofs.FindPart.{refused_by}
 
 -- Sector 0's count behind the home h of the track c.
 module _ (h : Home) (c : List ℕ) where
@@ -42,15 +39,15 @@ module _ (h : Home) (c : List ℕ) where
   count_missing o = rw o
 
   -- It is refused by a.
-  pub count_refused : (a : Answer) → starts_with plain_opening (from_first_count h c) ≡ true → a ≡ answer_of count → (a.number ≡ 0 → ⊥) → judge_first_count h c ≡ refused a
+  pub count_refused : (a : Refusal) → starts_with plain_opening (from_first_count h c) ≡ true → as_refusal a ≡ answer_of count → judge_first_count h c ≡ refused (as_refusal a)
   unfolding judge_first_count
-  count_refused a o e n = rw (o, refused_is count a e n)
+  count_refused a o e = rw (o, refused_by count a e)
 
   -- It is right.
-  pub count_right : (a : Answer) → starts_with plain_opening (from_first_count h c) ≡ true → a ≡ answer_of count → a.number ≡ 0 → judge_first_count h c ≡ good h
+  pub count_right : starts_with plain_opening (from_first_count h c) ≡ true → done ≡ answer_of count → judge_first_count h c ≡ good h
   unfolding judge_first_count
-  count_right a o e z =
-      rw (o, count_zero h 0 unsettled (first_count_place h.place) (span_rest 6 (from_first_count h c)) (ap (λ (b : Answer). b.number) (sym e) ∙ z))
+  count_right o e =
+      rw (o, count_zero h 0 unsettled (first_count_place h.place) (span_rest 6 (from_first_count h c)) (ap (λ (b : Answer). b.number) (sym e)))
 
 -- The first track: lent out of rule, with a home that is refused, or by its count.
 module _ (t m : List ℕ) where
@@ -124,7 +121,7 @@ module _ (s : ℕ) (w : Wanted) (h : Home) (c u v : List ℕ) where
   second_refused a e = go (accept u v) e
     where
       go : (j : Judged Accepted) → ◌≡◌ {A = Judged Home} (refused a) (then j (λ x. good x.home)) → find_on_second s w h c u v j ≡ of_second (refused a)
-      go (good x) q = absurd (let z : ◌≡◌ {A = ℕ} 0 1 = cc in omega arith)
+      go (good x) q = cc
       go (refused b) q = let e : a ≡ b = cc in rw e
 
   -- It is accepted with home g.
@@ -136,7 +133,7 @@ module _ (s : ℕ) (w : Wanted) (h : Home) (c u v : List ℕ) where
       go : (j : Judged Accepted) → ◌≡◌ {A = Judged Home} (good g) (then j (λ x. good x.home))
           → find_on_second s w h c u v j ≡ pick (pair_agrees h c g (cells u v)) (of_second (find s w u v)) (of_first (refused pair_wrong))
       go (good x) q = let e : g ≡ x.home = cc in rw e
-      go (refused b) q = absurd (let z : ◌≡◌ {A = ℕ} 0 1 = cc in omega arith)
+      go (refused b) q = cc
 
   -- The two agree, or not.
   pub second_found : (g : Home) → good g ≡ then (accept u v) (λ x. good x.home) → pair_agrees h c g (cells u v) ≡ true → find_on_second s w h c u v (accept u v) ≡ of_second (find s w u v)

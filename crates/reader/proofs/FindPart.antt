@@ -8,7 +8,7 @@ use lib.ListN.{length, take, drop, length-take, length-drop}
 use lib.Dec.{eqb, leb}
 use borrow.Author.Tests.{eq-eqb, ne_eqb, leb-true}
 use Rattle.base.specs.Pick.{pick}
-use Rattle.format.specs.Answer.{lent_wrong, sector_missing, sector_repeated, Answer}
+use Rattle.format.specs.Answer.{lent_wrong, sector_missing, sector_repeated, Answer, done, as_refusal}
 use Rattle.format.specs.Judged.{Judged, good, refused, answer_of}
 use Rattle.format.specs.Lent.{lent_for_reading, cells, length_right}
 use Rattle.format.specs.Home.{find_home}
@@ -22,9 +22,14 @@ use Rattle.reader.specs.declared.candidate.Candidate.{Candidate as CandidateCode
 use Rattle.reader.specs.declared.finding.Part.{Part as PartCode}
 use Rattle.reader.proofs.CandidateNext.{candidates_at, carrying_first, none_first}
 use Rattle.format.proofs.Find.FindParts.{rest_place}
-use Rattle.format.proofs.Base.Judged.{refusal_is}
+use Rattle.format.specs.declared.Refusal.{Refusal}
+use Rattle.format.proofs.Base.Judged.{refusal_is, refusal_number}
 use Rattle.format.proofs.Track.Pairs.{lent_length}
 use Rattle.base.proofs.Tests.{and_both}
+
+-- A judgement whose answer is that of a refusal of the code is refused by it.
+pub refused_by : {A : Type 0} (j : Judged A) (e : Refusal) → as_refusal e ≡ answer_of j → j ≡ refused (as_refusal e)
+refused_by j e h = refusal_is j (as_refusal e) h (refusal_number e)
 
 -- A candidate that carries s is kept,
 pub carrying_here : (s : ℕ) (x : Candidate) (ys : List Candidate) → count_number x.rest ≡ s → carrying s (x ∷ ys) ≡ x ∷ carrying s ys
@@ -77,14 +82,14 @@ module _ (w : Wanted) (t : List ℕ) (x : CandidateCode) (r : List ℕ) (e : r �
   wanted_here = ap (λ (z : List ℕ). wanted_part w (blocks_at q z)) (sym e)
 
   -- Its blocks do not fit.
-  pub part_short : (a : Answer) → a ≡ answer_of (judge_fit x.place x.last r) → (a.number ≡ 0 → ⊥) → refused a ≡ candidate_part w (as_candidate t x)
+  pub part_short : (a : Refusal) → as_refusal a ≡ answer_of (judge_fit x.place x.last r) → refused (as_refusal a) ≡ candidate_part w (as_candidate t x)
   unfolding candidate_part
-  part_short a h n = sym (rw (fit_here ∙ refusal_is (judge_fit x.place x.last r) a h n))
+  part_short a h = sym (rw (fit_here ∙ refused_by (judge_fit x.place x.last r) a h))
 
-  -- They fit, by the answer a.
-  module _ (a : Answer) (i : a ≡ answer_of (judge_fit x.place x.last r)) (z : a.number ≡ 0) where
+  -- They fit.
+  module _ (i : done ≡ answer_of (judge_fit x.place x.last r)) where
     fitting : judge_fit x.place x.last r ≡ good tt
-    fitting = fit_zero x.place x.last r (ap (λ (b : Answer). b.number) (sym i) ∙ z)
+    fitting = fit_zero x.place x.last r (ap (λ (b : Answer). b.number) (sym i))
 
     -- The block asked for, with its check and closing byte, lies within the track.
     pub part_inside : q + offset_of w r + 6 + length_of w r + 3 ≤ length t
@@ -93,14 +98,14 @@ module _ (w : Wanted) (t : List ℕ) (x : CandidateCode) (r : List ℕ) (e : r �
         omega (arith, l, block_fits w x.last r (fit_good x.place x.last r tt fitting), length-take x.size (drop q t), length-drop q t)
 
     -- It is wrong.
-    pub part_refused : (b : Answer) → b ≡ answer_of (wanted_part w (blocks_at q r)) → (b.number ≡ 0 → ⊥) → refused b ≡ candidate_part w (as_candidate t x)
+    pub part_refused : (b : Refusal) → as_refusal b ≡ answer_of (wanted_part w (blocks_at q r)) → refused (as_refusal b) ≡ candidate_part w (as_candidate t x)
     unfolding candidate_part
-    part_refused b h n = sym (rw (fit_here ∙ fitting) (wanted_here ∙ refusal_is (wanted_part w (blocks_at q r)) b h n))
+    part_refused b h = sym (rw (fit_here ∙ fitting) (wanted_here ∙ refused_by (wanted_part w (blocks_at q r)) b h))
 
-    -- It is right, by the answer b.
-    pub part_found : (b : Answer) → b ≡ answer_of (wanted_part w (blocks_at q r)) → b.number ≡ 0 → good (part_in w q r) ≡ candidate_part w (as_candidate t x)
+    -- It is right.
+    pub part_found : done ≡ answer_of (wanted_part w (blocks_at q r)) → good (part_in w q r) ≡ candidate_part w (as_candidate t x)
     unfolding candidate_part
-    part_found b h n = sym (rw (fit_here ∙ fitting) (wanted_here ∙ part_zero w q r (ap (λ (c : Answer). c.number) (sym h) ∙ n)))
+    part_found h = sym (rw (fit_here ∙ fitting) (wanted_here ∙ part_zero w q r (ap (λ (c : Answer). c.number) (sym h))))
 
 -- A part of k bytes from place p on lies within n bytes.
 pub found_inside : (x : PartCode) (p k n : ℕ) → as_part x ≡ part_at p k → p + k ≤ n → x.start + x.size ≤ n

@@ -6,6 +6,6 @@ pub mod finding;
 pub mod pair;
 pub mod walk;
 
-pub use finding::{Outcome, Part, Wanted, find, find_part};
+pub use finding::{Part, Wanted, find, find_part};
 pub use pair::{Paired, pair_find, pair_find_part};
-pub use walk::{Visit, Visited, step_at, step_lent};
+pub use walk::{Visited, step_at, step_lent};

@@ -12,16 +12,18 @@ ghost use Rattle.reader.specs.Finding.{as_wanted};
 ghost use Rattle.reader.specs.Pairing.{as_paired, PairWithin, pair_handed_out};
 
 use crate::candidate::{Candidate, rest_of};
-use crate::finding::{Outcome, Wanted, find_part};
-use accepting::{HomeJudged, Judged, judge, judge_home};
+use crate::finding::{Part, Wanted, find_part};
+use accepting::{judge, judge_home};
+use format::Refusal;
 use format::layout::{HOME_TO_COUNT, HOME_TO_COUNT_INFO, PLAIN};
 use sector::{Address, Home};
 
 // The outcome, and whether it speaks of the second track.
-#[derive(Clone, Copy)]
+// Stays as it is: the new form is no plainer, as the flag says also of a refusal which track it speaks of.
+#[derive(Clone, Copy, Debug, PartialEq, Eq)]
 pub struct Paired {
     pub second: bool,
-    pub outcome: Outcome,
+    pub outcome: Result<Part, Refusal>,
 }
 
 // What follows the opening of sector 0's count at place p in its span.
@@ -45,37 +47,30 @@ fn first_rest<'a>(track: &'a [u8], marks: &[u8], p: usize) -> &'a [u8]
 }
 
 // The home h of a track whose count of sector 0 is right: 6 where it does not open, 9 where it does not fit, then 7, then 8.
-fn judge_first_count(track: &[u8], marks: &[u8], h: Home) -> HomeJudged
+fn judge_first_count(track: &[u8], marks: &[u8], h: Home) -> Result<Home, Refusal>
     requires { (home_first ≤ h.place) × (h.place ≤ home_last) }
     ensures result_value { judged_home result ≡ judge_first_count (as_home h) (cells track.now marks.now) }
     ensures home_in_window { HomeInWindow result }
 {
     let p = h.place + HOME_TO_COUNT;
-    if search::opens_plain(track, marks, p) {
-        let r = first_rest(track, marks, p);
-        let a = sector::judge_count(h, 0, sector::Named::Unsettled, p, r);
-        if a.number != 0 {
-            return HomeJudged::Refused(a);
-        }
-        HomeJudged::Right(h)
-    } else {
-        HomeJudged::Refused(format::first_count_missing(p))
+    if !search::opens_plain(track, marks, p) {
+        return Err(Refusal::FirstCountMissing(p));
     }
+    let r = first_rest(track, marks, p);
+    sector::judge_count(h, 0, None, p, r)?;
+    Ok(h)
 }
 
 // The home of the first track, where it and sector 0's count are right: 1 to 4, then the count.
-fn judge_first(track: &[u8], marks: &[u8]) -> HomeJudged
+fn judge_first(track: &[u8], marks: &[u8]) -> Result<Home, Refusal>
     ensures result_value { judged_home result ≡ judge_first track.now marks.now }
     ensures home_in_window { HomeInWindow result }
 {
-    if search::lent_for_reading(track, marks) {
-        match judge_home(track, marks) {
-            HomeJudged::Right(h) => judge_first_count(track, marks, h),
-            HomeJudged::Refused(a) => HomeJudged::Refused(a),
-        }
-    } else {
-        HomeJudged::Refused(format::lent_wrong())
+    if !search::lent_for_reading(track, marks) {
+        return Err(Refusal::LentWrong);
     }
+    let h = judge_home(track, marks)?;
+    judge_first_count(track, marks, h)
 }
 
 // The byte at place i with its mark, and 0 past the end.
@@ -90,6 +85,7 @@ fn cell_at(track: &[u8], marks: &[u8], i: usize) -> usize
 }
 
 // Whether sector 0's count behind home h names the track a.
+// Stays as it is: the new form is no plainer, as a cell with its mark is more than a byte and from_be_bytes does not take it.
 fn names(track: &[u8], marks: &[u8], h: Home, a: Address) -> bool
     requires { h.place ≤ home_last }
     ensures { result ≡ same_address (as_address a) (named_track (as_home h) (cells track.now marks.now)) }
@@ -121,11 +117,7 @@ fn pair_agrees(
     }
     let own = h.address;
     let other = g.address;
-    if names(track, marks, h, other) {
-        names(second, second_marks, g, own)
-    } else {
-        false
-    }
+    names(track, marks, h, other) && names(second, second_marks, g, own)
 }
 
 // With flag 10 of the first: the second's own answer, then 16 where the two do not agree, then Find on the second.
@@ -143,7 +135,7 @@ fn find_on_second(
     ensures pair_within { PairWithin result (length track.now) (length second.now) }
 {
     match judge(second, second_marks) {
-        Judged::Accepted(g) => {
+        Ok(g) => {
             if pair_agrees(track, marks, h, second, second_marks, g) {
                 Paired {
                     second: true,
@@ -152,13 +144,13 @@ fn find_on_second(
             } else {
                 Paired {
                     second: false,
-                    outcome: Outcome::Refused(format::pair_wrong()),
+                    outcome: Err(Refusal::PairWrong),
                 }
             }
         }
-        Judged::Refused(a) => Paired {
+        Err(e) => Paired {
             second: true,
-            outcome: Outcome::Refused(a),
+            outcome: Err(e),
         },
     }
 }
@@ -176,29 +168,26 @@ pub fn pair_find_part(
     ensures pair_within { PairWithin result (length track.now) (length second.now) }
 {
     match judge_first(track, marks) {
-        HomeJudged::Right(h) => {
-            if h.flag % 4 == 3 {
-                return Paired {
-                    second: false,
-                    outcome: Outcome::Refused(format::pair_wrong()),
-                };
-            }
-            if h.flag % 4 == 2 {
-                return find_on_second(track, marks, h, second, second_marks, s, wanted);
-            }
-            Paired {
+        Ok(h) => match h.flag % 4 {
+            3 => Paired {
+                second: false,
+                outcome: Err(Refusal::PairWrong),
+            },
+            2 => find_on_second(track, marks, h, second, second_marks, s, wanted),
+            _ => Paired {
                 second: false,
                 outcome: find_part(track, marks, s, wanted),
-            }
-        }
-        HomeJudged::Refused(a) => Paired {
+            },
+        },
+        Err(e) => Paired {
             second: false,
-            outcome: Outcome::Refused(a),
+            outcome: Err(e),
         },
     }
 }
 
 // The key's or the data's information of sector S, as a part of the track that holds the record; the empty part where it is refused.
+// Stays as it is: what may not change (the scope document names the form, a slice of either track, and its clause gives the empty part for a refusal).
 pub fn pair_find<'a>(
     track: &'a [u8],
     marks: &[u8],
@@ -210,17 +199,9 @@ pub fn pair_find<'a>(
     ensures { result.now ≡ pair_handed_out track.now second.now (pair_find s (as_wanted wanted) track.now marks.now second.now second_marks.now) }
 {
     let found = pair_find_part(track, marks, second, second_marks, s, wanted);
-    let outcome = found.outcome;
-    match outcome {
-        Outcome::Found(x) => {
-            let from = x.start;
-            let to = x.start + x.size;
-            if found.second {
-                &second[from..to]
-            } else {
-                &track[from..to]
-            }
-        }
-        Outcome::Refused(_) => &track[0..0],
+    let lent = if found.second { second } else { track };
+    match found.outcome {
+        Ok(x) => &lent[x.start..x.start + x.size],
+        Err(_) => &lent[0..0],
     }
 }

@@ -7,11 +7,13 @@ ghost use Rattle.format.specs.Walk.{next_from, step};
 ghost use Rattle.search.specs.Place.{judged_place};
 ghost use Rattle.reader.specs.Finding.{judged_visit};
 
-use crate::candidate::{LAST_FIRST_COUNT, Standing, next_candidate, rest_of};
+use crate::candidate::{next_candidate, rest_of};
+use format::Refusal;
 use format::layout::MARKED;
+use sectors::LAST_FIRST_COUNT;
 
 // What a step gives: the place of the candidate's opening, its flag, S, KL and DL.
-#[derive(Clone, Copy)]
+#[derive(Clone, Copy, Debug, PartialEq, Eq)]
 pub struct Visited {
     pub place: usize,
     pub flag: u8,
@@ -20,69 +22,52 @@ pub struct Visited {
     pub data_length: usize,
 }
 
-// The candidate that a step has come to, or the answer that refuses it.
-#[derive(Clone, Copy)]
-pub enum Visit {
-    At(Visited),
-    Refused(format::Answer),
-}
-
 // Home's place, looked for only where sector 0's count behind it can open at place `from` or later.
-fn home_ahead(track: &[u8], marks: &[u8], from: usize) -> search::Found
+fn home_ahead(track: &[u8], marks: &[u8], from: usize) -> Option<usize>
     ensures { candidates_from (judged_place result) from (drop from (cells track.now marks.now)) ≡ candidates_from (find_home (cells track.now marks.now)) from (drop from (cells track.now marks.now)) }
 {
     if from > LAST_FIRST_COUNT {
-        return search::Found::Nowhere;
+        return None;
     }
     search::find_home(track, marks)
 }
 
 // Where the search from place `from` on starts: where home plays no part, behind an opening of which `from` is the second cell, as none opens within it.
-fn search_start(track: &[u8], marks: &[u8], home: search::Found, from: usize) -> usize
+fn search_start(track: &[u8], marks: &[u8], home: Option<usize>, from: usize) -> usize
     ensures { candidates_from (judged_place home) from (drop from (cells track.now marks.now)) ≡ candidates_from (judged_place home) result (drop result (cells track.now marks.now)) }
 {
-    match home {
-        search::Found::At(_) => from,
-        search::Found::Nowhere => {
-            if from == 0 {
-                return from;
-            }
-            if search::opens_marked(track, marks, from - 1) {
-                return from + (MARKED - 1);
-            }
-            from
-        }
+    if home.is_some() || from == 0 {
+        return from;
     }
+    if search::opens_marked(track, marks, from - 1) {
+        return from + (MARKED - 1);
+    }
+    from
 }
 
 // The step of a reader over a pair that is lent within the rule: the first candidate at place `from` or later, 12 with none left.
-pub fn step_lent(track: &[u8], marks: &[u8], from: usize) -> Visit
+pub fn step_lent(track: &[u8], marks: &[u8], from: usize) -> Result<Visited, Refusal>
     ensures { judged_visit result ≡ next_from from (candidates (cells track.now marks.now)) }
 {
     let home = home_ahead(track, marks, from);
     let start = search_start(track, marks, home, from);
-    match next_candidate(track, marks, home, start) {
-        Standing::Stands(x) => {
-            let r = rest_of(track, x);
-            Visit::At(Visited {
-                place: x.place,
-                flag: sector::byte_at(r, 0),
-                number: sector::byte_at(r, 5),
-                key_length: sector::key_length(r),
-                data_length: sector::data_length(r),
-            })
-        }
-        Standing::Not => Visit::Refused(format::sector_missing()),
-    }
+    let x = next_candidate(track, marks, home, start).ok_or(Refusal::SectorMissing)?;
+    let r = rest_of(track, x);
+    Ok(Visited {
+        place: x.place,
+        flag: sector::byte_at(r, 0),
+        number: sector::byte_at(r, 5),
+        key_length: sector::key_length(r),
+        data_length: sector::data_length(r),
+    })
 }
 
 // The step of a reader that has come to place `from`: 1 where the pair is lent out of rule, then the first candidate there or later, 12 with none left.
-pub fn step_at(track: &[u8], marks: &[u8], from: usize) -> Visit
+pub fn step_at(track: &[u8], marks: &[u8], from: usize) -> Result<Visited, Refusal>
     ensures { judged_visit result ≡ step from track.now marks.now }
 {
-    if search::lent_for_reading(track, marks) {
-        step_lent(track, marks, from)
-    } else {
-        Visit::Refused(format::lent_wrong())
+    if !search::lent_for_reading(track, marks) {
+        return Err(Refusal::LentWrong);
     }
+    step_lent(track, marks, from)
 }

@@ -6,7 +6,9 @@ use native.Mathlib.Omega.{arith}
 use mathlib.Core.List.{List, [], ◌∷◌, ◌++◌}
 use lib.ListN.{length, drop, get_or, length-map, get_or-append, get_or-map}
 use Rattle.base.proofs.Filled.{filled as filled_to, filled_whole}
-use Rattle.format.specs.Answer.{lent_wrong}
+use Rattle.std.specs.Prelude.{Result}
+use Rattle.format.specs.declared.Refusal.{Refusal}
+use Rattle.format.specs.Answer.{lent_wrong, as_answer, given}
 use Rattle.format.specs.Judged.{Judged, good, refused, answer_of}
 use Rattle.format.specs.Listing.{Listed, most_sectors, list}
 use Rattle.format.proofs.Track.ListAccepted.{list_short, list_long}
@@ -67,3 +69,18 @@ unfolding filled_rows
 full_rows n t m old new i l e f =
     filled_whole (rows_of (list most_sectors t m)) old new i (length_rows t m ∙ sym e) f
     ∙ ap (λ (j : Judged (List Listed)). rows_of j ++ drop (length (rows_of j)) old) (list_long n t m l)
+
+-- What is told of a list of 67 rows and filled by it is so of a longer one.
+pub record Told (n : ℕ) (t m : List ℕ) (r : Result ℕ Refusal) (old new : List (List ℕ)) : Type 0 where
+  pub answer : as_answer r ≡ answer_of (list n t m)
+  pub count : given r ≡ length (records_of (list n t m))
+  pub rows : new ≡ filled_rows (list n t m) old
+
+pub told : (n : ℕ) (t m : List ℕ) (r : Result ℕ Refusal) (old new : List (List ℕ)) → most_sectors ≤ n → as_answer r ≡ answer_of (list most_sectors t m)
+    → given r ≡ length (records_of (list most_sectors t m)) → new ≡ filled_to (rows_of (list most_sectors t m)) (given r) old → Told n t m r old new
+told n t m r old new l a c f =
+    record {
+      answer = a ∙ ap answer_of (list_long n t m l);
+      count = c ∙ ap (λ (j : Judged (List Listed)). length (records_of j)) (list_long n t m l);
+      rows = full_rows n t m old new (given r) l c f;
+    }

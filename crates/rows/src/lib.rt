@@ -1,52 +1,55 @@
 // List into rows of eight numbers of 16 bits, the form in which the records reach C.
 #![tactic(auto)]
 
-ghost use Rattle.std.specs.Prelude.{◌≡◌, length};
-ghost use Rattle.format.specs.Answer.{as_answer};
+ghost use Rattle.std.specs.Prelude.{◌≡◌, ◌≤◌, ◌%◌, IfOk, length};
+ghost use Rattle.format.specs.Answer.{as_answer, given};
 ghost use Rattle.format.specs.Judged.{answer_of};
 ghost use Rattle.format.specs.Listing.{list};
 ghost use Rattle.listing.specs.Filling.{records_of};
 ghost use Rattle.rows.specs.Rows.{filled_rows, low_bits};
 
-// A record as a row: flag, S, KL, DL, the key's place, the data's place, end and gap.
-fn row_of(x: listing::Sector) -> [u16; 8]
-    ensures { result ≡ low_bits x }
+use format::Refusal;
+use listing::{MOST_SECTORS, Sector};
+
+// The low 16 bits of a number.
+// Stays as it is: a bare `as u16` is proved to lose nothing, and `low_bits` speaks of any number.
+fn low(n: usize) -> u16
+    ensures { result ≡ n % 65536 }
 {
-    let key_length = (x.key_length % 65536) as u16;
-    let data_length = (x.data_length % 65536) as u16;
-    let key_place = (x.key_place % 65536) as u16;
-    let data_place = (x.data_place % 65536) as u16;
-    let end = (x.end % 65536) as u16;
-    let gap = (x.gap % 65536) as u16;
+    (n % 65536) as u16
+}
+
+// A record as a row: flag, S, KL, DL, the key's place, the data's place, end and gap.
+fn row_of(x: &Sector) -> [u16; 8]
+    ensures { result ≡ low_bits x.now }
+{
     [
-        x.flag as u16,
-        x.number as u16,
-        key_length,
-        data_length,
-        key_place,
-        data_place,
-        end,
-        gap,
+        u16::from(x.flag),
+        u16::from(x.number),
+        low(x.key_length),
+        low(x.data_length),
+        low(x.key_place),
+        low(x.data_place),
+        low(x.end),
+        low(x.gap),
     ]
 }
 
-// Fills the first rows with the sectors of an accepted track from left to right; every other row stays.
-pub fn list_rows(track: &[u8], marks: &[u8], rows: &mut [[u16; 8]]) -> listing::Listing
-    ensures answer { as_answer result.answer ≡ answer_of (list (length rows.old) track.now marks.now) }
-    ensures count { result.count ≡ length (records_of (list (length rows.old) track.now marks.now)) }
+// Fills the first rows with the sectors of an accepted track from left to right, and returns how many; every other row stays.
+pub fn list_rows(track: &[u8], marks: &[u8], rows: &mut [[u16; 8]]) -> Result<usize, Refusal>
+    ensures answer { as_answer result ≡ answer_of (list (length rows.old) track.now marks.now) }
+    ensures count { given result ≡ length (records_of (list (length rows.old) track.now marks.now)) }
+    ensures count_fits { IfOk result (λ k. k ≤ length rows.old) }
     ensures rows { rows.new ≡ filled_rows (list (length rows.old) track.now marks.now) rows.old }
 {
-    if rows.len() < 67 {
-        let answer = format::lent_wrong();
-        return listing::Listing { answer, count: 0 };
+    if rows.len() < MOST_SECTORS {
+        return Err(Refusal::LentWrong);
     }
     let filled = listing::list_all(track, marks);
-    let records = filled.records;
-    let n = filled.listing.count;
-    let mut i: usize = 0;
-    while i < n {
-        rows[i] = row_of(records[i]);
-        i = i + 1;
+    let count = filled.listing?;
+    // Stays as it is: tried over `rows.iter_mut().zip(..)`, behind which nothing is known of the rows, so the clause `rows` does not close.
+    for (i, record) in filled.records[..count].iter().enumerate() {
+        rows[i] = row_of(record);
     }
-    filled.listing
+    Ok(count)
 }

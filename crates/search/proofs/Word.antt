@@ -77,12 +77,10 @@ word_set (suc n) s i h b e =
     let t : get_or s i 0 ≡ 0 → ⊥ = eqb-false (get_or s i 0) 0 z in
     rw (mul-suc 8 n, zeros_off s i (omega arith) t) (sym (byte_set (8 * n) (get_or s i 0) v (omega arith) (b i))))
 
--- Eight bytes, each with its weight, are the word at their place.
-pub word_sum : (s : List ℕ) (i w : ℕ)
-    → w ≡ word_of (get_or s i 0) (get_or s (i + 1) 0) (get_or s (i + 2) 0) (get_or s (i + 3) 0) (get_or s (i + 4) 0) (get_or s (i + 5) 0) (get_or s (i + 6) 0) (get_or s (i + 7) 0)
-    → w ≡ word_at 8 s i
+-- Eight bytes, each with its weight, are the word at their place: the check's definition of it and this one agree.
+pub words_agree : (s : List ℕ) (i : ℕ) → Rattle.crc.specs.Word.word_at s i ≡ word_at 8 s i
 unfolding word_at
-word_sum s i w e = let f = simp towards_suc at e in omega arith
+words_agree s i = simp towards_suc (omega arith)
 
 -- The word w from place i to place j of s is 0, or it is not.
 pub word_run : (s : List ℕ) (i j w : ℕ) → j ≡ i + 8 → j ≤ length s → ((k : ℕ) → get_or s k 0 < 256) → w ≡ word_at 8 s i

@@ -44,10 +44,8 @@ pub fn marks_legal(marks: &[u8]) -> bool
     ensures { result ≡ marks_legal marks.now }
 {
     let mut any: u8 = 0;
-    let mut i = 0;
-    while i < marks.len() {
-        any |= marks[i];
-        i += 1;
+    for mark in marks {
+        any |= *mark;
     }
     any < 2
 }
@@ -67,10 +65,7 @@ pub fn cell_count(track: &[u8], marks: &[u8]) -> usize
     ensures value { result ≡ length (cells track.now marks.now) }
     ensures upper_bound { (result ≤ length track.now) × (result ≤ length marks.now) }
 {
-    if track.len() < marks.len() {
-        return track.len();
-    }
-    marks.len()
+    track.len().min(marks.len())
 }
 
 // How many cells a pair has from place p on.
@@ -78,11 +73,7 @@ fn cells_from(track: &[u8], marks: &[u8], p: usize) -> usize
     ensures value { result ≡ length (drop p (cells track.now marks.now)) }
     ensures upper_bound { (result ≤ length track.now - p) × (result ≤ length marks.now - p) }
 {
-    let n = cell_count(track, marks);
-    if n < p {
-        return 0;
-    }
-    n - p
+    cell_count(track, marks).saturating_sub(p)
 }
 
 // Whether the opening of these bytes and marks stands at place p.
@@ -94,11 +85,9 @@ fn starts_with(track: &[u8], marks: &[u8], p: usize, opening: &[u8], marking: &[
         return false;
     }
     let mut any: u8 = 0;
-    let mut k = 0;
-    while k < size {
+    for k in 0..size {
         any |= track[p + k] ^ opening[k];
         any |= marks[p + k] ^ marking[k];
-        k += 1;
     }
     any == 0
 }
@@ -117,15 +106,8 @@ pub fn opens_marked(track: &[u8], marks: &[u8], p: usize) -> bool
     starts_with(track, marks, p, &MARKED_OPENING, &MARKED_OPENING_MARKS)
 }
 
-// Home's place, or that home opens nowhere in its window.
-#[derive(Clone, Copy)]
-pub enum Found {
-    At(usize),
-    Nowhere,
-}
-
-// Home's place: the first of the window's places 23 to 37 at which all six opening bytes agree and are unmarked.
-pub fn find_home(track: &[u8], marks: &[u8]) -> Found
+// Home's place, if it opens in its window: the first of the window's places 23 to 37 at which all six opening bytes agree and are unmarked.
+pub fn find_home(track: &[u8], marks: &[u8]) -> Option<usize>
     ensures result_value { judged_place result ≡ find_home (cells track.now marks.now) }
     ensures in_window { InWindow result }
 {
@@ -143,9 +125,9 @@ pub fn find_home(track: &[u8], marks: &[u8]) -> Found
                     continue 'places;
                 }
             }
-            break 'search Found::At(place);
+            break 'search Some(place);
         }
-        break 'search Found::Nowhere;
+        break 'search None;
     }
 }
 
@@ -154,16 +136,8 @@ fn word_at(bytes: &[u8], i: usize) -> u64
     requires { i + 8 ≤ length bytes.now }
     ensures { result ≡ word_at 8 bytes.now i }
 {
-    crc::word_of(
-        bytes[i],
-        bytes[i + 1],
-        bytes[i + 2],
-        bytes[i + 3],
-        bytes[i + 4],
-        bytes[i + 5],
-        bytes[i + 6],
-        bytes[i + 7],
-    )
+    let (words, _) = bytes[i..i + 8].as_chunks::<8>();
+    u64::from_le_bytes(words[0])
 }
 
 // The first of two words, or the second where the first is 0.
@@ -201,14 +175,12 @@ fn step_zeros(a: u64, b: u64, c: u64, d: u64) -> usize
 fn zeros_singly(bytes: &[u8]) -> usize
     ensures { result ≡ zero_run bytes.now }
 {
-    let mut i = 0;
-    while i < bytes.len() {
-        if bytes[i] != 0 {
+    for (i, byte) in bytes.iter().enumerate() {
+        if *byte != 0 {
             return i;
         }
-        i += 1;
     }
-    i
+    bytes.len()
 }
 
 // Where the zeros end that the last 32 bytes start with.
@@ -229,6 +201,7 @@ fn last_step_end(bytes: &[u8]) -> usize
 }
 
 // How many zeros the bytes start with: by steps of 32, of which the last one ends with the bytes.
+// Stays as it is: the new form is no plainer, as chunks give no last step that reaches back over the one before it.
 fn zero_run(bytes: &[u8]) -> usize
     ensures { result ≡ zero_run bytes.now }
 {
@@ -263,6 +236,7 @@ pub fn unmarked_run(track: &[u8], marks: &[u8], p: usize) -> usize
 }
 
 // The length of a span, and whether it runs to index.
+// Stays as it is: the new form is no plainer, as a span has its length whether it runs to index or not.
 #[derive(Clone, Copy)]
 pub struct Span {
     pub length: usize,

@@ -1,8 +1,6 @@
 -- The laws that lead from the bytes of a span to the definitions.
 pub mod Opening
 pub mod Block
-pub mod Field
 pub mod BlocksJudged
-pub mod BlockEnd
 pub mod MeasuredLemmas
 pub mod Right

@@ -1,5 +1,5 @@
 -- Openings and closed fields by their bytes.
-use mathlib.Core.Path.{◌≡◌, sym, ap, ◌∙◌}
+use mathlib.Core.Path.{◌≡◌, refl, sym, ap, ◌∙◌}
 use Prim.Native.Nat.{ℕ, suc, ◌+◌, ◌/◌, ◌%◌, ◌≤◌, ◌<◌}
 use native.Mathlib.Omega.{arith}
 use native.Mathlib.Nat.{add-suc, add-zero}
@@ -8,10 +8,17 @@ use mathlib.Core.List.{List, [], ◌∷◌}
 use lib.ListN.{length, get_or, take, drop, length-drop}
 use lib.Seq.{drop-cons}
 use lib.Dec.{eqb}
+use lib.Pointwise.{pointwise}
 use Rattle.crc.specs.Check.{check_of, check_bytes, agrees}
 use Rattle.format.specs.Opening.{starts_with, plain_opening, closing, closed_after, check_follows, closing_follows}
 use Rattle.format.proofs.Cells.Opening.{starts_length, starts_short}
 use Rattle.base.proofs.Tests.{and_true, eqb_comm}
+
+-- The standard library's test whether a list starts with another is that of the format.
+pub starts_pointwise : (o c : List ℕ) → pointwise eqb o (take (length o) c) ≡ starts_with o c
+starts_pointwise [] c = refl
+starts_pointwise (x ∷ o) [] = refl
+starts_pointwise (x ∷ o) (y ∷ c) = ap (λ (b : Bool). eqb x y && b) (starts_pointwise o c)
 
 -- A field with fewer than three bytes after its n information bytes is not closed.
 pub closed_short : (n : ℕ) (c : List ℕ) → length c < n + 3 → closed_after n c ≡ false
@@ -51,11 +58,3 @@ module _ (n : ℕ) (c : List ℕ) where
 -- Cells that start with an unmarked opening are at least six.
 pub plain_length_lem : (c : List ℕ) → starts_with plain_opening c ≡ true → 6 ≤ length c
 plain_length_lem c e = starts_length plain_opening c e
-
--- No 00 starts an empty list.
-pub zero_none : (c : List ℕ) → length c ≡ 0 → starts_with (0x00 ∷ []) c ≡ false
-zero_none c h = starts_short (0x00 ∷ []) c (omega arith)
-
--- The first byte of any other decides.
-pub zero_first : (c : List ℕ) → (length c ≡ 0 → ⊥) → starts_with (0x00 ∷ []) c ≡ eqb (get_or c 0 0) 0
-zero_first c h = starts_one 0 c 0 (omega arith)

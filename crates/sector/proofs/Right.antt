@@ -5,7 +5,7 @@ use native.Mathlib.Omega.{arith}
 use mathlib.Core.Bool.{Bool, true, false, ◌&&◌}
 use mathlib.Core.List.{List}
 use Rattle.format.specs.Answer.{key_wrong, data_wrong}
-use Rattle.format.specs.Fault.{Fault, Tested, sound, faulty, demand}
+use Rattle.format.specs.Fault.{Tested, sound, faulty}
 use Rattle.format.specs.Judged.{good, then, require_sound, answer_of}
 use Rattle.format.specs.Home.{Home}
 use Rattle.format.specs.Count.{Settled, count_fits, count_closed, count_fields_right}
@@ -19,12 +19,6 @@ use Rattle.sector.specs.Right.{is_sound, blocks_right, sector_right}
 sound_is : (t : Tested) → is_sound t ≡ true → t ≡ sound
 sound_is sound e = refl
 sound_is (faulty f) e = false-true e
-
--- Two tests in turn find nothing at fault where both hold.
-pub sound_two : (a b : Bool) (x y : Fault) → is_sound (demand a x (demand b y sound)) ≡ (a && b)
-sound_two true true x y = refl
-sound_two true false x y = refl
-sound_two false b x y = refl
 
 -- Blocks that are right are good.
 blocks_good : (first : Bool) (p : ℕ) (last : Bool) (r : List ℕ) → blocks_right last r ≡ true → read_blocks first p last r ≡ good (sector_in first r)

@@ -8,10 +8,11 @@ use format::layout::{CHECK, CLOSING, CLOSING_BYTE, PLAIN_OPENING};
 pub fn byte_at(r: &[u8], i: usize) -> u8
     ensures { result ≡ get_or r.now i 0 }
 {
-    if i < r.len() { r[i] } else { 0 }
+    r.get(i).copied().unwrap_or(0)
 }
 
 // Whether the check of n information bytes follows them.
+#[tactic(auto, using(crate::proofs::Opening::check_short, crate::proofs::Opening::check_two))]
 pub(crate) fn check_follows(r: &[u8], n: usize) -> bool
     ensures { result ≡ check_follows n r.now }
 {
@@ -27,6 +28,7 @@ pub(crate) fn check_follows(r: &[u8], n: usize) -> bool
 }
 
 // Whether the closing byte follows them and their check.
+#[tactic(auto, using(crate::proofs::Opening::closing_short, crate::proofs::Opening::closing_third))]
 pub(crate) fn closing_follows(r: &[u8], n: usize) -> bool
     ensures { result ≡ closing_follows n r.now }
 {
@@ -40,31 +42,19 @@ pub(crate) fn closing_follows(r: &[u8], n: usize) -> bool
 }
 
 // Whether n information bytes are followed by their check and the closing byte.
+#[tactic(auto, using(format::proofs::Cells::Field::closed_parts))]
 pub fn closed_after(r: &[u8], n: usize) -> bool
     ensures { result ≡ closed_after n r.now }
 {
-    if check_follows(r, n) {
-        closing_follows(r, n)
-    } else {
-        false
-    }
+    check_follows(r, n) && closing_follows(r, n)
 }
 
 // Whether the bytes start with these.
+#[tactic(auto, using(crate::proofs::Opening::starts_pointwise))]
 pub(crate) fn starts_with(c: &[u8], wanted: &[u8]) -> bool
     ensures { result ≡ starts_with wanted.now c.now }
 {
-    if c.len() < wanted.len() {
-        return false;
-    }
-    let mut k = 0;
-    while k < wanted.len() {
-        if c[k] != wanted[k] {
-            return false;
-        }
-        k += 1;
-    }
-    true
+    c.starts_with(wanted)
 }
 
 // Whether the bytes start with an unmarked opening.
@@ -78,8 +68,5 @@ pub(crate) fn starts_plain(c: &[u8]) -> bool
 pub(crate) fn starts_zero(c: &[u8]) -> bool
     ensures { result ≡ starts_with (0x00 ∷ []) c.now }
 {
-    if c.len() == 0 {
-        return false;
-    }
-    c[0] == 0
+    starts_with(c, &[0x00])
 }

@@ -7,14 +7,8 @@ use crate::bytes::{byte_at, closed_after};
 use crate::fields::{Address, Home, address_in, address_right, count_flag_right, same_address};
 use format::layout::{COUNT_INFO, COUNT_TAIL};
 
-// What the counts of a track name: nothing before sector 0's count, and from there its C and H.
-#[derive(Clone, Copy)]
-pub enum Named {
-    Unsettled,
-    Settled(Address),
-}
-
 // Whether the 12 bytes of the count lie in its span.
+#[tactic(auto, unfolding(format::specs::Count::count_fits))]
 pub fn count_fits(r: &[u8]) -> bool
     ensures { result ≡ count_fits r.now }
 {
@@ -22,6 +16,7 @@ pub fn count_fits(r: &[u8]) -> bool
 }
 
 // Whether check and closing byte of the count are right.
+#[tactic(auto, unfolding(format::specs::Count::count_closed))]
 pub fn count_closed(r: &[u8]) -> bool
     ensures { result ≡ count_closed r.now }
 {
@@ -39,27 +34,25 @@ pub fn key_length(r: &[u8]) -> usize
 pub fn data_length(r: &[u8]) -> usize
     ensures { result ≡ data_length r.now }
 {
-    byte_at(r, 7) as usize * 256 + byte_at(r, 8) as usize
+    usize::from(u16::from_be_bytes([byte_at(r, 7), byte_at(r, 8)]))
 }
 
-// Whether C and H of a count keep their rule: sector 0's by the flag of home, a later one's as sector 0's.
-fn count_address_right(h: Home, x: Named, a: Address) -> bool
+// Whether C and H of a count keep their rule: sector 0's, before which no count has named an address, by the flag of home; a later one's as sector 0's.
+#[tactic(auto, unfolding(format::specs::Count::count_address_right))]
+fn count_address_right(h: Home, x: Option<Address>, a: Address) -> bool
     ensures { result ≡ count_address_right (as_home h) (as_settled x) (as_address a) }
 {
     let own = h.address;
     match x {
-        Named::Unsettled => address_right(h.flag, own, a),
-        Named::Settled(b) => same_address(a, b),
+        None => address_right(h.flag, own, a),
+        Some(b) => same_address(a, b),
     }
 }
 
 // Whether flag, C and H of the count in position i keep their rules.
-pub fn count_fields_right(h: Home, i: usize, x: Named, r: &[u8]) -> bool
+#[tactic(auto, unfolding(format::specs::Count::count_fields_right))]
+pub fn count_fields_right(h: Home, i: usize, x: Option<Address>, r: &[u8]) -> bool
     ensures { result ≡ count_fields_right (as_home h) i (as_settled x) r.now }
 {
-    if count_flag_right(h.flag, i, byte_at(r, 0)) {
-        count_address_right(h, x, address_in(r))
-    } else {
-        false
-    }
+    count_flag_right(h.flag, i, byte_at(r, 0)) && count_address_right(h, x, address_in(r))
 }

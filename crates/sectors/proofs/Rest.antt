@@ -1,5 +1,5 @@
 -- What follows a count's opening in its span, as bytes of the lent track.
-use mathlib.Core.Path.{◌≡◌, refl, sym, ap, ap₂, ◌∙◌}
+use mathlib.Core.Path.{◌≡◌, sym, ap, ◌∙◌}
 use Prim.Native.Nat.{ℕ, ◌+◌, ◌-◌, ◌≤◌, ◌<◌}
 use native.Mathlib.Omega.{arith}
 use mathlib.Core.Bool.{Bool, true, false}
@@ -7,7 +7,11 @@ use mathlib.Core.List.{List, []}
 use lib.ListN.{length, take, drop, length-drop}
 use lib.Seq.{drop-drop, take-append-le, drop-append-le}
 use lib.Dec.{leb, eqb}
-use borrow.Author.Tests.{le-leb, lt-leb, leb-true, leb-false, eq-eqb, ne_eqb}
+use borrow.Author.Tests.{le-leb, lt-leb, leb-true, eq-eqb, ne_eqb}
+use mathlib.Core.Logic.{◌⊎◌, inl, inr}
+use Rattle.std.proofs.Common.{Bor}
+use Rattle.std.specs.Prelude.{Option, None, Some, unwrap_or}
+use Rattle.std.specs.Slice.{IsGetRangeResult}
 use Rattle.base.specs.Pick.{pick}
 use Rattle.format.specs.Lent.{cells}
 use Rattle.format.specs.Count.{count_flag, count_address, count_number, key_length, data_length}
@@ -47,14 +51,6 @@ pub opens_high : (p : ℕ) → last_first_count < p → opens_first p ≡ false
 unfolding opens_first
 opens_high p h = lt-leb p last_first_count h
 
--- Places out of order give no bytes,
-pub bounds_none : (from to : ℕ) → to < from → (0 ≡ pick (leb from to) from 0) × (0 ≡ pick (leb from to) to 0)
-bounds_none from to h = rw (lt-leb from to h) (refl, refl)
-
--- and others are the bounds.
-pub bounds_some : (from to : ℕ) → from ≤ to → (from ≡ pick (leb from to) from 0) × (to ≡ pick (leb from to) to 0)
-bounds_some from to h = rw (le-leb from to h) (refl, refl)
-
 -- The opening of the count at place p has o cells, and its span n.
 module _ (t m : List ℕ) (p o n : ℕ) (w : o ≡ opening_length (opens_first p)) (s : n ≡ span_length o (drop p (cells t m))) where
   -- The span ends with the track at the latest.
@@ -75,23 +71,14 @@ module _ (t m : List ℕ) (p o n : ℕ) (w : o ≡ opening_length (opens_first p
   unfolding rest_at
   rest_bytes = sym (span_rest_bytes o p (p + n - (p + o)) t m (omega arith)) ∙ ap (λ (i : ℕ). span_rest i (drop p (cells t m))) w
 
-  -- The bounds of what follows it, or none where the span ends before its opening does.
-  module _ (a b : ℕ) (f : (a ≡ pick (leb (p + o) (p + n)) (p + o) 0) × (b ≡ pick (leb (p + o) (p + n)) (p + n) 0)) where
-    -- They stand in order within the track,
-    pub bounds_within : (a ≤ b) × (b ≤ length t)
-    bounds_within =
-        cases (leb (p + o) (p + n))
-        (λ h. let f' : (a ≡ p + o) × (b ≡ p + n) = rw h at f in let l = leb-true (p + o) (p + n) h in
-        (omega (arith, l, f'.0, f'.1), omega (arith, l, f'.1, span_within, w, opening_least (opens_first p))))
-        (λ h. let f' : (a ≡ 0) × (b ≡ 0) = rw h at f in (omega (arith, f'.0), omega (arith, f'.1)))
-
-    -- and between them stand its bytes.
-    pub bounds_bytes : take (b - a) (drop a t) ≡ rest_at p (cells t m)
-    bounds_bytes =
-        cases (leb (p + o) (p + n))
-        (λ h. let f' : (a ≡ p + o) × (b ≡ p + n) = rw h at f in ap₂ (λ (i j : ℕ). take (j - i) (drop i t)) f'.0 f'.1 ∙ rest_bytes)
-        (λ h. let f' : (a ≡ 0) × (b ≡ 0) = rw h at f in
-        ap₂ (λ (i j : ℕ). take (j - i) (drop i t)) f'.0 f'.1 ∙ rest_none (omega (arith, leb-false (p + o) (p + n) h)))
+  -- They are what is got of the track there, which is nothing where the span ends before its opening does.
+  pub rest_got : (r : Option (Bor (List ℕ))) (d : Bor (List ℕ)) → d.now ≡ [] → IsGetRangeResult t (p + o) (p + n) r → (unwrap_or r d).now ≡ rest_at p (cells t m)
+  rest_got None d e h = e ∙ rest_none (go h.0)
+    where
+      go : (p + n < p + o) ⊎ (length t < p + n) → n < o
+      go (inl l) = omega arith
+      go (inr l) = omega (arith, span_within, w, opening_least (opens_first p))
+  rest_got (Some x) d e h = h.0.2 ∙ rest_bytes
 
   -- The sector at place p by what follows the opening.
   pub sector_here : p ≤ 4002 → (last : Bool) → last ≡ runs_to_index o (drop p (cells t m)) → (r : List ℕ) → r ≡ rest_at p (cells t m)

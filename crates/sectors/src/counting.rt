@@ -10,6 +10,7 @@ pub fn sector_count(track: &[u8], marks: &[u8], start: usize) -> usize
     ensures { (xs : List Placed) → SectorsFrom track.now marks.now start xs → result ≡ length xs }
 {
     let mut p = start;
+    // Stays as it is: the new form is no plainer. for n in 0.. needs an unreachable!() behind it, and successors(..).count() requires finitely many steps, which the contract of successors does not give.
     let mut n: usize = 0;
     loop {
         let x = step_at(track, marks, p);
@@ -17,6 +18,6 @@ pub fn sector_count(track: &[u8], marks: &[u8], start: usize) -> usize
             return n;
         }
         p = x.next;
-        n = n + 1;
+        n += 1;
     }
 }

@@ -1,8 +1,7 @@
 // Stepping over the sectors of a track, from the place of one count to the place of the next.
 #![tactic(auto)]
 
-ghost use Rattle.std.specs.Prelude.{◌≡◌, ◌≤◌, leb};
-ghost use Rattle.base.specs.Pick.{pick};
+ghost use Rattle.std.specs.Prelude.{◌≡◌, ◌≤◌};
 ghost use Rattle.format.specs.Lent.{cells};
 ghost use Rattle.sectors.specs.SectorAt.{sector_fields, opens_first, sector_at, as_sector_at};
 
@@ -16,9 +15,10 @@ pub use seeking::{Passage, Sought, place_of, search_from};
 pub use steps::{Step, step_at};
 
 // The last place at which sector 0's count opens: home starts at 37 at the latest and has 14 bytes, and 11 follow it.
-const LAST_FIRST_COUNT: usize = HOME_LAST + HOME_TO_COUNT;
+pub const LAST_FIRST_COUNT: usize = HOME_LAST + HOME_TO_COUNT;
 
 // A sector: flag, S, KL, DL, the places of its information, where its data block ends, where the next span starts, whether its own span runs to index, and C and H.
+// Stays as it is: what may not change (sector_at cannot fail: its clause gives each field at each place).
 #[derive(Clone, Copy)]
 pub struct SectorAt {
     pub flag: u8,
@@ -61,24 +61,8 @@ fn sector_in(q: usize, next: usize, last: bool, r: &[u8]) -> SectorAt
     }
 }
 
-// The places from which and up to which bytes are taken.
-#[derive(Clone, Copy)]
-struct Bounds {
-    from: usize,
-    to: usize,
-}
-
-// These places, or no bytes where the second stands before the first.
-fn in_order(from: usize, to: usize) -> Bounds
-    ensures { (result.from ≡ pick (leb from to) from 0) × (result.to ≡ pick (leb from to) to 0) }
-{
-    if to < from {
-        return Bounds { from: 0, to: 0 };
-    }
-    Bounds { from, to }
-}
-
 // Whether the count that opens at place p is sector 0's.
+#[tactic(auto, unfolding(crate::specs::SectorAt::opens_first))]
 pub fn opens_first(p: usize) -> bool
     ensures { result ≡ opens_first p }
 {
@@ -86,6 +70,7 @@ pub fn opens_first(p: usize) -> bool
 }
 
 // The sector whose count opens at place p, with an opening of 6 bytes where it is sector 0's, else of 8; above place 4,002 there is none, and all numbers are zero.
+#[tactic(auto, using(crate::proofs::Rest::sector_past))]
 pub fn sector_at(track: &[u8], marks: &[u8], p: usize) -> SectorAt
     ensures { as_sector_at result ≡ sector_at p (cells track.now marks.now) }
 {
@@ -109,11 +94,8 @@ pub fn sector_at(track: &[u8], marks: &[u8], p: usize) -> SectorAt
     }
     let o = sector::opening_length(opens_first(p));
     let span = search::span_at(track, marks, p, o);
-    let n = span.length;
     let from = p + o;
-    let next = p + n;
-    let rest = in_order(from, next);
-    let start = rest.from;
-    let end = rest.to;
-    sector_in(from, next, span.last, &track[start..end])
+    let next = p + span.length;
+    let rest = track.get(from..next).unwrap_or(&[]);
+    sector_in(from, next, span.last, rest)
 }

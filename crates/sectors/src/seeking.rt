@@ -8,6 +8,7 @@ ghost use Rattle.sectors.specs.From.{SectorsFrom};
 use crate::{SectorAt, sector_at, step_at};
 
 // The place to which a search came, the place of the sector before it, and how many sectors were passed.
+// Stays as it is: what may not change (search_from cannot fail: sectors_from_2 gives the place before and the count where no sector carries S).
 #[derive(Clone, Copy)]
 pub struct Passage {
     pub place: usize,
@@ -22,17 +23,11 @@ pub fn search_from(track: &[u8], marks: &[u8], start: usize, s: u8) -> Passage
 {
     let mut p = start;
     let mut before = start;
+    // Stays as it is: the new form is no plainer. for count in 0.. needs an unreachable!() behind it.
     let mut count: usize = 0;
     loop {
         let x = step_at(track, marks, p);
-        if x.number == s {
-            return Passage {
-                place: p,
-                before,
-                count,
-            };
-        }
-        if x.next <= p {
+        if x.number == s || x.next <= p {
             return Passage {
                 place: p,
                 before,
@@ -41,11 +36,12 @@ pub fn search_from(track: &[u8], marks: &[u8], start: usize, s: u8) -> Passage
         }
         before = p;
         p = x.next;
-        count = count + 1;
+        count += 1;
     }
 }
 
 // A sector and the place at which its count opens.
+// Stays as it is: what may not change (place_of cannot fail: its clauses give a place and the sector there also where no sector carries S).
 #[derive(Clone, Copy)]
 pub struct Sought {
     pub place: usize,
@@ -57,8 +53,7 @@ pub fn place_of(track: &[u8], marks: &[u8], start: usize, s: u8) -> Sought
     ensures sectors_from { (xs : List Placed) → SectorsFrom track.now marks.now start xs → SectorsFrom track.now marks.now result.place (from_number s xs) }
     ensures sector_value { as_sector_at result.sector ≡ sector_at result.place (cells track.now marks.now) }
 {
-    let found = search_from(track, marks, start, s);
-    let place = found.place;
+    let place = search_from(track, marks, start, s).place;
     Sought {
         place,
         sector: sector_at(track, marks, place),

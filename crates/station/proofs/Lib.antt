@@ -1,6 +1,4 @@
 -- The laws that lead from the calls of C to the definitions.
-pub mod Asked
-pub mod Wrote
 pub mod Places
 pub mod Fields
 pub mod Unpacked

@@ -1,9 +1,8 @@
 -- The results of the calls from C: fields packed into one number of 64 bits.
-use Rattle.std.specs.Prelude.{ℕ, ◌+◌, ◌*◌, ◌%◌, List, length, eqb}
-use Rattle.base.specs.Pick.{pick}
-use Rattle.format.specs.Answer.{Answer, wanted_wrong}
+use Rattle.std.specs.Prelude.{ℕ, ◌+◌, ◌*◌, ◌%◌, List, length}
+use Rattle.format.specs.Answer.{Answer}
 use Rattle.format.specs.Judged.{Judged, good, refused, answer_of}
-use Rattle.format.specs.Blocks.{Wanted, the_key, the_data, Part}
+use Rattle.format.specs.Blocks.{Wanted, Part}
 use Rattle.format.specs.Listing.{Listed}
 use Rattle.format.specs.Walk.{Visited}
 use Rattle.format.specs.Written.{After}
@@ -77,10 +76,6 @@ packed_visited v =
 unfoldable pub packed_visit : Judged Visited → ℕ
 packed_visit (good v) = packed_visited v
 packed_visit (refused a) = a.number
-
--- The part that a number asks for: 0 the key, 1 the data, and 14 for any other.
-unfoldable pub wanted_by : ℕ → Judged Wanted
-wanted_by n = pick (eqb n 0) (good the_key) (pick (eqb n 1) (good the_data) (refused wanted_wrong))
 
 -- Pair find of the part that is asked for, where t, m is the first pair and u, v the second; a refusal of what is asked for speaks of the first.
 unfoldable pub pair_find_by : ℕ → Judged Wanted → List ℕ → List ℕ → List ℕ → List ℕ → Paired

@@ -5,8 +5,9 @@ ghost use Rattle.format.specs.Accept.{accept};
 ghost use Rattle.format.specs.Listing.{list};
 ghost use Rattle.format.specs.Find.{find};
 ghost use Rattle.format.specs.Walk.{step};
+ghost use Rattle.reader.specs.Finding.{wanted_by};
 ghost use Rattle.rows.specs.Rows.{filled_rows};
-ghost use Rattle.station.specs.Packed.{packed_answer, packed_listing, packed_part, packed_paired, packed_visit, wanted_by, pair_find_by};
+ghost use Rattle.station.specs.Packed.{packed_answer, packed_listing, packed_part, packed_paired, packed_visit, pair_find_by};
 
 // Accept: the answer for the whole track.
 #[unsafe(no_mangle)]

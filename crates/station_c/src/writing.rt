@@ -8,6 +8,7 @@ ghost use Rattle.encode.specs.Room.{address_of};
 ghost use Rattle.station.specs.Packed.{packed_after, packed};
 ghost use Rattle.station.specs.Numbered.{numbered_rule};
 
+// Stays as it is: the C interface, in which each call is an export that hands its arguments on.
 // Blank: writes home and sector 0 in the lent pair; a refusal writes nothing.
 #[unsafe(no_mangle)]
 pub extern "C" fn iso3561_blank(
@@ -60,6 +61,7 @@ pub extern "C" fn iso3561_add(
     )
 }
 
+// Stays as it is: the C interface, in which each call is an export that hands its arguments on.
 // Correct: copies the track into the new pair with a new key and data for one sector; a refusal writes nothing.
 #[unsafe(no_mangle)]
 pub extern "C" fn iso3561_correct(

@@ -3,113 +3,62 @@
 // number too; then `ended`.
 #![tactic(auto)]
 
-ghost use Rattle.std.specs.Prelude.{◌≤◌, length, IfOk};
+use format::{Answer, Refusal};
+use input::{Halves, Number, ROOM, read_full};
+use reader::Wanted;
+use std::{fmt, io};
 
-use reader::{Outcome, Wanted};
-use std::io;
-use std::io::Read;
+// A part as it is printed: its bytes in hexadecimal, `-` where there are none, or `!` and the answer that refuses it.
+#[derive(Clone, Copy)]
+struct Shown<'a>(Result<&'a [u8], Refusal>);
 
-// Writes bytes in hexadecimal, or `-` where there are none.
-fn write_bytes(rt: &impl Print, bytes: &[u8]) -> io::Result<()> {
-    if bytes.is_empty() {
-        print!(rt; "-")?;
+impl fmt::Display for Shown<'_> {
+    fn fmt<W: fmt::Write>(&self, f: &mut fmt::Formatter<W>) -> fmt::Result {
+        match self.0 {
+            Ok([]) => write!(f, "-"),
+            Ok(bytes) => {
+                for byte in bytes {
+                    write!(f, "{byte:02x}")?;
+                }
+                Ok(())
+            }
+            Err(refusal) => write!(f, "!{}", Number(Answer::from(refusal))),
+        }
     }
-    for byte in bytes {
-        print!(rt; "{byte:02x}")?;
-    }
-    Ok(())
 }
 
-// The answer to a part asked for.
-fn answer_of(outcome: Outcome) -> format::Answer {
-    match outcome {
-        Outcome::Found(_) => format::done(),
-        Outcome::Refused(a) => a,
-    }
-}
-
-// Writes the number of an answer and, where it has one, a dot and its second number.
-fn write_number(rt: &impl Print, a: format::Answer) -> io::Result<()> {
-    print!(rt; "{}", a.number)?;
-    if a.fault != 0 {
-        print!(rt; ".{}", a.fault)?;
-    }
-    Ok(())
-}
-
-// Writes a part of sector S with what follows it on the line, or the answer that refuses it.
-fn write_part(
-    rt: &impl Print,
-    track: &[u8],
-    marks: &[u8],
-    s: u8,
-    wanted: Wanted,
-    end: &[u8],
-) -> io::Result<()> {
-    let a = answer_of(reader::find_part(track, marks, s, wanted));
-    if a.number == 0 {
-        write_bytes(rt, reader::find(track, marks, s, wanted))?;
-    } else {
-        print!(rt; "!")?;
-        write_number(rt, a)?;
-    }
-    rt.write_all(end)
+// A part of sector S, as Find hands it out.
+fn part_of(lent: Halves<'_>, s: u8, wanted: Wanted) -> Result<&[u8], Refusal> {
+    reader::find_part(lent.track, lent.marks, s, wanted)?;
+    Ok(reader::find(lent.track, lent.marks, s, wanted))
 }
 
 // Writes the record of sector S, unless no candidate carries S.
-fn write_record(rt: &impl Print, track: &[u8], marks: &[u8], number: usize) -> io::Result<()> {
-    let s = (number % 256) as u8;
-    let a = answer_of(reader::find_part(track, marks, s, Wanted::TheKey));
-    if a.number == 12 {
+fn write_record(rt: &impl Print, lent: Halves, s: u8) -> io::Result<()> {
+    let key = part_of(lent, s, Wanted::TheKey);
+    if let Err(Refusal::SectorMissing) = key {
         return Ok(());
     }
-    print!(rt; "{s} ")?;
-    write_part(rt, track, marks, s, Wanted::TheKey, b" ")?;
-    write_part(rt, track, marks, s, Wanted::TheData, b"\n")
+    println!(rt;
+        "{s} {} {}",
+        Shown(key),
+        Shown(part_of(lent, s, Wanted::TheData))
+    )
 }
 
-// Writes the records of all S.
-fn write_records(rt: &impl Print, track: &[u8], marks: &[u8]) -> io::Result<()> {
-    for s in 0..256 {
-        write_record(rt, track, marks, s)?;
+// Writes the records of all S and that this is their end, or that the input is refused.
+fn dump(rt: &impl Print, lent: Halves) -> io::Result<()> {
+    if !search::lent_for_reading(lent.track, lent.marks) {
+        return println!(rt; "refused 1");
     }
-    Ok(())
-}
-
-// Writes the records and that this is their end, or that the input is refused.
-fn dump(rt: &impl Print, track: &[u8], marks: &[u8]) -> io::Result<()> {
-    if search::lent_for_reading(track, marks) {
-        write_records(rt, track, marks)?;
-        println!(rt; "ended")
-    } else {
-        println!(rt; "refused 1")
+    for s in 0..=u8::MAX {
+        write_record(rt, lent, s)?;
     }
+    println!(rt; "ended")
 }
 
-// The two halves of the input are the track and its marks.
-fn dump_halves(rt: &impl Print, all: &[u8]) -> io::Result<()> {
-    let half = all.len() / 2;
-    dump(rt, &all[0..half], &all[half..])
-}
-
-// Reads until the buffer is full or the input ends, and returns how many bytes it put at the buffer's start.
-fn read_full(input: &mut impl Read, buffer: &mut [u8]) -> io::Result<usize>
-    ensures { IfOk result (λ n. n ≤ length buffer.new) }
-{
-    let mut done = 0;
-    while done < buffer.len() {
-        let n = input.read(&mut buffer[done..])?;
-        if n == 0 {
-            break;
-        }
-        done += n;
-    }
-    Ok(done)
-}
-
-// The longest track and its marks have 8,004 bytes; one more is read, so that longer input is noticed by halves of different length.
 fn main(rt: HostRuntime) -> io::Result<()> {
-    let mut input = [0u8; 8005];
-    let n = read_full(&mut rt.stdin(), &mut input)?;
-    dump_halves(&rt, &input[..n])
+    let mut buffer = [0u8; ROOM];
+    let n = read_full(&mut rt.stdin(), &mut buffer)?;
+    dump(&rt, Halves::from(&buffer[..n]))
 }

@@ -3,89 +3,51 @@
 // and then the part itself.
 #![tactic(auto)]
 
-ghost use Rattle.std.specs.Prelude.{◌≤◌, length, IfOk};
+ghost use Rattle.std.specs.Prelude.{◌≤◌, length};
 
-use reader::{Outcome, Wanted};
+use input::{Halves, Number, ROOM, read_full};
+use reader::Wanted;
 use std::io::Read;
 use std::rt::{Env, Files};
 use std::{fs, io, str};
 
-// Writes a number and a space.
-fn write_field(rt: &impl Print, n: u64) -> io::Result<()> {
-    print!(rt; "{n} ")
-}
-
-// Writes the number of an answer and, where it has one, a dot and its second number; and its place.
-fn write_numbers(rt: &impl Print, a: format::Answer) -> io::Result<()> {
-    print!(rt; "{}", a.number)?;
-    if a.fault != 0 {
-        print!(rt; ".{}", a.fault)?;
-    }
-    print!(rt; " ")?;
-    write_field(rt, a.place as u64)
-}
-
-// Writes which track an answer speaks of, its number and its place.
-fn write_answer(rt: &impl Print, found: reader::Paired) -> io::Result<()> {
-    if found.second {
-        write_field(rt, 2)?;
-    } else {
-        write_field(rt, 1)?;
-    }
-    let outcome = found.outcome;
-    match outcome {
-        Outcome::Found(_) => write_numbers(rt, format::done()),
-        Outcome::Refused(a) => write_numbers(rt, a),
-    }
-}
-
-// Writes a part: its length, and on a line of its own its bytes as they are.
-fn write_bytes(rt: &impl Print, bytes: &[u8]) -> io::Result<()> {
-    println!(rt; "{}", bytes.len())?;
-    rt.write_all(bytes)?;
-    println!(rt)
-}
-
-// Writes the answer to the part asked for, and the part.
-fn write_part<'a>(
+// Writes the answer to the part asked for, and on a line of its own the part.
+fn write_part(
     rt: &impl Print,
-    first: &'a [u8],
-    second: &'a [u8],
+    name: &str,
+    first: Halves,
+    second: Halves,
     s: u8,
     wanted: Wanted,
 ) -> io::Result<()> {
-    let half = first.len() / 2;
-    let other = second.len() / 2;
-    let track = &first[0..half];
-    let marks = &first[half..];
-    let alternative = &second[0..other];
-    let other_marks = &second[other..];
-    write_answer(
-        rt,
-        reader::pair_find_part(track, marks, alternative, other_marks, s, wanted),
+    let (track, marks) = (first.track, first.marks);
+    let (other, other_marks) = (second.track, second.marks);
+    let found = reader::pair_find_part(track, marks, other, other_marks, s, wanted);
+    let part = reader::pair_find(track, marks, other, other_marks, s, wanted);
+    let which = if found.second { 2 } else { 1 };
+    let answer = format::answer_of(&found.outcome);
+    println!(rt;
+        "{name} {which} {} {} {}",
+        Number(answer),
+        answer.place,
+        part.len()
     )?;
-    write_bytes(
-        rt,
-        reader::pair_find(track, marks, alternative, other_marks, s, wanted),
-    )
+    rt.write_all(part)?;
+    println!(rt)
 }
 
-// Writes the lines of the record S of both files' bytes.
-fn write_record<'a>(rt: &impl Print, first: &'a [u8], second: &'a [u8], s: u8) -> io::Result<()> {
-    print!(rt; "key ")?;
-    write_part(rt, first, second, s, Wanted::TheKey)?;
-    print!(rt; "data ")?;
-    write_part(rt, first, second, s, Wanted::TheData)
+// Writes the lines of the record S.
+fn write_record(rt: &impl Print, first: Halves, second: Halves, s: u8) -> io::Result<()> {
+    write_part(rt, "key", first, second, s, Wanted::TheKey)?;
+    write_part(rt, "data", first, second, s, Wanted::TheData)
 }
 
 // Puts argument i at the buffer's start and returns its length; 0 where it is missing or longer than the buffer.
+// Stays as it is: an `Option` is no plainer, as both callers take a missing argument for an empty one.
 fn argument(rt: &impl Env, i: usize, buffer: &mut [u8]) -> usize
     ensures { result ≤ length buffer.new }
 {
-    match rt.arg(i, buffer) {
-        Ok(n) => n,
-        Err(_) => 0,
-    }
+    rt.arg(i, buffer).unwrap_or(0)
 }
 
 // The text of an error without the system's number of it.
@@ -119,80 +81,45 @@ fn open_argument<R: Alloc + Env + Eprint + Files>(rt: &R, i: usize) -> io::Resul
     }
 }
 
-// The value of a digit; 1,000 for any other byte.
-fn digit(b: u8) -> u32
-    ensures { result ≤ 1000 }
-{
-    if b < 48 {
-        return 1000;
+// The number up to 255 that one to three decimal digits tell.
+fn number_in(digits: &[u8]) -> Option<u8> {
+    if digits.len() > 3 || !digits.iter().all(u8::is_ascii_digit) {
+        return None;
     }
-    if 57 < b {
-        return 1000;
-    }
-    b as u32 - 48
-}
-
-// The number that one to three digits tell; 1,000 or more for any other text.
-fn number_in(digits: &[u8]) -> u32 {
-    if digits.len() == 1 {
-        return digit(digits[0]);
-    }
-    if digits.len() == 2 {
-        return digit(digits[0]) * 10 + digit(digits[1]);
-    }
-    if digits.len() == 3 {
-        return digit(digits[0]) * 100 + digit(digits[1]) * 10 + digit(digits[2]);
-    }
-    1000
+    str::from_utf8(digits).ok()?.parse().ok()
 }
 
 // The number that argument i tells.
-fn number_argument(rt: &impl Env, i: usize) -> u32 {
+fn number_argument(rt: &impl Env, i: usize) -> Option<u8> {
     let mut digits = [0u8; 4];
     let n = argument(rt, i, &mut digits);
     number_in(&digits[..n])
 }
 
-// Reads until the buffer is full or the input ends, and returns how many bytes it put at the buffer's start.
-fn read_full(input: &mut impl Read, buffer: &mut [u8]) -> io::Result<usize>
-    ensures { IfOk result (λ n. n ≤ length buffer.new) }
-{
-    let mut done = 0;
-    while done < buffer.len() {
-        let n = input.read(&mut buffer[done..])?;
-        if n == 0 {
-            break;
-        }
-        done += n;
-    }
-    Ok(done)
-}
-
-// Reads both files and writes the record; one byte more than the longest track and its marks is read, so that a longer file is noticed by halves of different length.
+// Reads both files and writes the record.
 fn find_in_files(
     rt: &impl Print,
     one: &mut impl Read,
     two: &mut impl Read,
     s: u8,
 ) -> io::Result<()> {
-    let mut first = [0u8; 8005];
+    let mut first = [0u8; ROOM];
     let n = read_full(one, &mut first)?;
-    let mut second = [0u8; 8005];
+    let mut second = [0u8; ROOM];
     let k = read_full(two, &mut second)?;
-    write_record(rt, &first[..n], &second[..k], s)
+    write_record(rt, Halves::from(&first[..n]), Halves::from(&second[..k]), s)
 }
 
 // Finds the record that the arguments name, or says how to call the program.
 fn main(rt: HostRuntime) -> io::Result<()> {
-    let s = number_argument(&rt, 3);
-    if 255 < s {
+    let Some(s) = number_argument(&rt, 3) else {
         return eprintln!(rt; "usage: trackpair FIRST SECOND S, S from 0 to 255");
-    }
+    };
     let Some(mut one) = open_argument(&rt, 1)? else {
         return Ok(());
     };
     let Some(mut two) = open_argument(&rt, 2)? else {
         return Ok(());
     };
-    find_in_files(&rt, &mut one, &mut two, s as u8)
+    find_in_files(&rt, &mut one, &mut two, s)
 }

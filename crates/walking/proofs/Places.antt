@@ -1,26 +1,25 @@
 -- The place that a reader has come to by a step, and that it fits.
 use mathlib.Core.Path.{◌≡◌, sym, ap}
 use Prim.Native.Nat.{ℕ, suc, ◌+◌, ◌≤◌, ◌<◌}
+use native.Mathlib.Numerals.{add-one}
 use native.Mathlib.Omega.{arith}
 use mathlib.Core.Bool.{Bool, true, false}
 use mathlib.Core.List.{List, [], ◌∷◌}
 use lib.ListN.{length}
 use lib.Dec.{leb}
-use Rattle.format.specs.Answer.{lent_wrong}
+use Rattle.format.specs.Answer.{Answer, lent_wrong}
 use Rattle.format.specs.Judged.{Judged, good, refused}
 use Rattle.format.specs.Lent.{cells}
 use Rattle.format.specs.Home.{find_home}
 use Rattle.format.specs.Candidate.{Candidate, stands_at, candidate_at, candidates_from, candidates}
 use Rattle.format.specs.Walk.{Visited, visited, next_from, place_after}
-use Rattle.format.specs.declared.Answer.{Answer as AnswerCode}
 use Rattle.format.proofs.Base.Judged.{good_inj, refused-good, require_good}
 use Rattle.base.proofs.Tests.{cases}
 use Rattle.format.proofs.Track.Pairs.{length_cells}
-use Rattle.reader.specs.Finding.{judged_visit}
-use Rattle.reader.specs.declared.walk.Visit.{Visit}
-use Rattle.reader.specs.declared.walk.Visit.TheVariants.{At, Refused}
+use Rattle.reader.specs.Finding.{as_visited}
 use Rattle.reader.specs.declared.walk.Visited.{Visited as VisitedCode}
-use Rattle.walking.specs.Walked.{judged_step}
+use Rattle.walking.specs.Walked.{judged_step, step_of, after_step}
+use Rattle.walking.specs.declared.Walk.{Walk}
 
 -- The places of the candidates lie below n.
 abbrev Below : ℕ → List Candidate → Type 0
@@ -53,11 +52,9 @@ step_below lent p t m v e =
     next_below p n (candidates (cells t m)) v (candidates_below (find_home (cells t m)) 0 n (cells t m) (omega arith)) r.1
 
 -- The place of the candidate that a step of the code gives fits.
-pub visit_below : (w : Visit) (v : VisitedCode) (p : ℕ) (t m : List ℕ) → w ≡ At v → judged_visit w ≡ next_from p (candidates (cells t m)) → v.place < length t
+pub visit_below : (v : VisitedCode) (p : ℕ) (t m : List ℕ) → good (as_visited v) ≡ next_from p (candidates (cells t m)) → v.place < length t
 unfolding judged_step
-visit_below w v p t m e h =
-    let q : judged_visit (At v) ≡ judged_step true p t m = rw e at h in
-    omega (arith, step_below true p t m _ (sym q), length_cells t m)
+visit_below v p t m e = omega (arith, step_below true p t m (as_visited v) (sym e), length_cells t m)
 
 -- The step of a pair that is lent within the rule, and of any other.
 pub judged_lent : (lent : Bool) (p : ℕ) (t m : List ℕ) → lent ≡ true → judged_step lent p t m ≡ next_from p (candidates (cells t m))
@@ -68,20 +65,12 @@ pub judged_wrong : (lent : Bool) (p : ℕ) (t m : List ℕ) → lent ≡ false �
 unfolding judged_step
 judged_wrong lent p t m e = rw e
 
--- A reader goes behind the first byte of the candidate that its step gives.
-pub place_behind : (w : Visit) (v : VisitedCode) (p : ℕ) (j : Judged Visited) → w ≡ At v → judged_visit w ≡ j → v.place + 1 ≡ place_after p j
+-- A reader goes behind the first byte of the candidate that its step gives,
+pub step_moves : (w : Walk) (v : Visited) → good v ≡ step_of w → after_step w ≡ record { track = w.track; marks = w.marks; at = v.place + 1; lent = w.lent }
 unfolding place_after
-place_behind w v p j e h =
-    let q : judged_visit (At v) ≡ j = rw e at h in
-    rw (sym q) (omega arith)
+step_moves w v e = rw (← e, add-one)
 
--- A reader whose step is refused stays where it was.
-pub place_stays : (w : Visit) (a : AnswerCode) (p : ℕ) (j : Judged Visited) → w ≡ Refused a → judged_visit w ≡ j → p ≡ place_after p j
+-- and stays where it was where its step is refused.
+pub step_stays : (w : Walk) (a : Answer) → refused a ≡ step_of w → after_step w ≡ w
 unfolding place_after
-place_stays w a p j e h =
-    let q : judged_visit (Refused a) ≡ j = rw e at h in
-    rw (sym q)
-
-pub place_kept : (p : ℕ) (j : Judged Visited) → refused lent_wrong ≡ j → p ≡ place_after p j
-unfolding place_after
-place_kept p j e = rw (sym e)
+step_stays w a e = rw (← e)

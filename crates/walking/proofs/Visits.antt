@@ -6,6 +6,8 @@ use native.Mathlib.Omega.{arith}
 use mathlib.Core.Bool.{true, false}
 use mathlib.Core.List.{List, [], ◌∷◌, ◌++◌, map}
 use lib.ListN.{length, get_or, take, replicate, length-map}
+use Rattle.std.proofs.Math.Seq.{take-append-add}
+use Rattle.std.proofs.lemmas.List.{take-replicate, get_or-take}
 use denote.Ref.{Bor}
 use Rattle.format.specs.Answer.{lent_wrong, sector_missing}
 use Rattle.format.specs.Judged.{Judged, good, refused}
@@ -16,12 +18,14 @@ use Rattle.base.proofs.Tests.{cases}
 use Rattle.format.proofs.Find.WalkSteps.{steps, visits, walk_visits, walk_refuses}
 use Rattle.reader.proofs.FindSteps.{step_wrong}
 use Rattle.reader.specs.Finding.{judged_visit}
-use Rattle.reader.specs.declared.walk.Visit.{Visit}
+use Rattle.std.specs.Prelude.{Result}
+use Rattle.format.specs.declared.Refusal.{Refusal}
+use Rattle.reader.specs.declared.walk.Visited.{Visited as VisitedCode}
 use Rattle.walking.specs.Walked.{judged_step, reader_at, step_of, after_step, visit_of}
 use Rattle.walking.specs.declared.Walk.{Walk}
 
 -- A reader w was stepped and gave rs: each step as its contract says, over the reader that the one before left.
-abbrev pub Stepping : Walk → List Visit → Type 0
+abbrev pub Stepping : Walk → List (Result VisitedCode Refusal) → Type 0
 Stepping w [] = Unit {0}
 Stepping w (r ∷ rs) = (judged_visit r ≡ step_of w) × ((v : Walk) × (v ≡ after_step w) × Stepping v rs)
 
@@ -34,7 +38,7 @@ pub reader_after : (t m : Bor (List ℕ)) (p : ℕ) → after_step (reader_at t 
 reader_after t m p = ap (λ (j : Judged Visited). reader_at t m (place_after p j)) (reader_step t m p)
 
 -- What it gave are the steps of the definition, from its place on.
-pub stepping_steps : (t m : Bor (List ℕ)) (p : ℕ) (rs : List Visit) → Stepping (reader_at t m p) rs → map judged_visit rs ≡ steps (length rs) p t.now m.now
+pub stepping_steps : (t m : Bor (List ℕ)) (p : ℕ) (rs : List (Result VisitedCode Refusal)) → Stepping (reader_at t m p) rs → map judged_visit rs ≡ steps (length rs) p t.now m.now
 unfolding steps
 stepping_steps t m p [] s = refl
 stepping_steps t m p (r ∷ rs) s =
@@ -43,29 +47,22 @@ stepping_steps t m p (r ∷ rs) s =
     rw (s.0 ∙ reader_step t m p, q)
 
 -- A new reader over a pair that is lent within the rule gives exactly the candidates, each once, from left to right, then answer 12.
-pub reader_visits : (t m : Bor (List ℕ)) (w : Walk) (rs : List Visit) → w ≡ reader_at t m 0 → Stepping w rs → lent_for_reading t.now m.now ≡ true
+pub reader_visits : (t m : Bor (List ℕ)) (w : Walk) (rs : List (Result VisitedCode Refusal)) → w ≡ reader_at t m 0 → Stepping w rs → lent_for_reading t.now m.now ≡ true
     → map judged_visit rs ≡ take (length rs) (visits (candidates (cells t.now m.now)) ++ replicate (length rs) (refused sector_missing))
 reader_visits t m w rs e s l =
     stepping_steps t m 0 rs (subst (λ (v : Walk). Stepping v rs) e s) ∙ walk_visits (length rs) t.now m.now l
 
 -- Over any other pair each of its steps answers 1.
-pub reader_refuses : (t m : Bor (List ℕ)) (w : Walk) (rs : List Visit) → w ≡ reader_at t m 0 → Stepping w rs → lent_for_reading t.now m.now ≡ false
+pub reader_refuses : (t m : Bor (List ℕ)) (w : Walk) (rs : List (Result VisitedCode Refusal)) → w ≡ reader_at t m 0 → Stepping w rs → lent_for_reading t.now m.now ≡ false
     → map judged_visit rs ≡ replicate (length rs) (refused lent_wrong)
 reader_refuses t m w rs e s l =
     stepping_steps t m 0 rs (subst (λ (v : Walk). Stepping v rs) e s) ∙ walk_refuses (length rs) 0 t.now m.now l
 
-take_replicate : {A : Type 0} (k j : ℕ) (a : A) → k ≤ j → take k (replicate j a) ≡ replicate k a
-take_replicate zero j a h = refl
-take_replicate (suc k) zero a h = absurd (omega arith)
-take_replicate {A} (suc k) (suc j) a h = ap (λ (z : List A). a ∷ z) (take_replicate k j a (le_of_suc-le-suc h))
-
 take_behind : {A : Type 0} (xs : List A) (n k j : ℕ) (a : A) → n ≡ length xs + k → k ≤ j → take n (xs ++ replicate j a) ≡ xs ++ replicate k a
-take_behind [] n k j a e h = let q : n ≡ k = omega arith in rw q (take_replicate k j a h)
-take_behind (x ∷ xs) zero k j a e h = absurd (omega arith)
-take_behind {A} (x ∷ xs) (suc n) k j a e h = ap (λ (z : List A). x ∷ z) (take_behind xs n k j a (omega arith) h)
+take_behind {A} xs n k j a e h = rw e (take-append-add xs (replicate j a) k ∙ ap (λ (z : List A). xs ++ z) (take-replicate k j a h))
 
 -- Stepped once for each candidate and k times more, it gives them all, and then k times 12.
-pub reader_visits_all : (t m : Bor (List ℕ)) (w : Walk) (rs : List Visit) (k : ℕ) → w ≡ reader_at t m 0 → Stepping w rs → lent_for_reading t.now m.now ≡ true
+pub reader_visits_all : (t m : Bor (List ℕ)) (w : Walk) (rs : List (Result VisitedCode Refusal)) (k : ℕ) → w ≡ reader_at t m 0 → Stepping w rs → lent_for_reading t.now m.now ≡ true
     → length rs ≡ length (candidates (cells t.now m.now)) + k
     → map judged_visit rs ≡ visits (candidates (cells t.now m.now)) ++ replicate k (refused sector_missing)
 reader_visits_all t m w rs k e s l n =
@@ -94,12 +91,6 @@ steps_at n zero p t m d h = absurd (omega arith)
 steps_at zero (suc k) p t m d h = refl
 steps_at (suc n) (suc k) p t m d h = steps_at n k (place_after p (step p t m)) t m d (le_of_suc-le-suc h) ∙ ap (λ (q : ℕ). step q t m) (sym (reached_later n p t m))
 
-get_d_take : {A : Type 0} (n k : ℕ) (xs : List A) (d : A) → n < k → get_or (take k xs) n d ≡ get_or xs n d
-get_d_take n zero xs d h = absurd (omega arith)
-get_d_take n (suc k) [] d h = refl
-get_d_take zero (suc k) (x ∷ xs) d h = refl
-get_d_take (suc n) (suc k) (x ∷ xs) d h = get_d_take n k xs d (le_of_suc-le-suc h)
-
 get_d_same : {A : Type 0} (n k : ℕ) (a : A) → get_or (replicate k a) n a ≡ a
 get_d_same n zero a = refl
 get_d_same zero (suc k) a = refl
@@ -114,7 +105,7 @@ lent_visits : (n : ℕ) (t m : List ℕ) → lent_for_reading t m ≡ true → s
 lent_visits n t m l =
     sym (steps_at n (suc n) 0 t m (refused sector_missing) (omega arith))
     ∙ ap (λ (xs : List (Judged Visited)). get_or xs n (refused sector_missing)) (walk_visits (suc n) t m l)
-    ∙ get_d_take n (suc n) (visits (candidates (cells t m)) ++ replicate (suc n) (refused sector_missing)) (refused sector_missing) (omega arith)
+    ∙ get_or-take (suc n) (visits (candidates (cells t m)) ++ replicate (suc n) (refused sector_missing)) n (refused sector_missing) (omega arith)
     ∙ get_d_behind (visits (candidates (cells t m))) n (suc n) (refused sector_missing)
 
 -- After no step it is where it was.

@@ -22,7 +22,8 @@ use Rattle.format.proofs.Sector.ReadBack.{length_written}
 use Rattle.format.proofs.Written.WrittenHome.{head_length_holds}
 use Rattle.encode.proofs.Cells.{bytes_append, marks_append}
 use Rattle.writer.specs.Filled.{filled_span}
-use Rattle.writer.proofs.Filled.{content_bounds, laid_to_end, take_over, filled_length}
+use Rattle.encode.proofs.Sectors.{content_bounds}
+use Rattle.writer.proofs.Filled.{laid_to_end, take_over, filled_length}
 
 -- Wanted fields within the rule have content within the rule.
 pub blank_content : (own : Address) (flag : ℕ) (partner : Address) (key body : List ℕ) → blank_right own flag partner key body ≡ true

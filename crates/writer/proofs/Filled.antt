@@ -7,19 +7,19 @@ use mathlib.Core.List.{List, [], ◌++◌, append-nil, append_assoc}
 use lib.ListN.{length, take, drop, replicate, length-append, length-replicate, drop_of_length-le}
 use lib.Seq.{take_at, drop_at, length-take-le}
 use lib.Dec.{lit<, eqb}
-use borrow.Author.Tests.{leb-true}
 use borrow.Rule.Slice.PartMut.{put_mid}
 use Rattle.format.specs.Lent.{bytes_of, marks_of}
 use Rattle.format.specs.Block.{key_size}
 use Rattle.format.specs.GapRule.{GapRule, wanted_right}
 use Rattle.format.specs.Written.{data_size, written_sector, sector_size}
-use Rattle.format.specs.Sector.{Sector, opening_length, content_right}
-use Rattle.base.proofs.Tests.{cases, and_both}
+use Rattle.format.specs.Sector.{Sector, opening_length}
+use Rattle.base.proofs.Tests.{cases}
 use Rattle.format.proofs.Cells.Opening.{unmarked_replicate}
 use Rattle.format.proofs.Written.Gap.{wanted_parts}
 use Rattle.format.proofs.Track.Pairs.{length_bytes, length_marks, bytes_unmarked}
 use Rattle.base.specs.Laid.{laid_over, laid_at, laid_if, laid_at_if}
 use Rattle.base.proofs.Laid.{laid_behind, laid_back_if}
+use Rattle.encode.proofs.Sectors.{content_bounds}
 use Rattle.encode.proofs.Cells.{bytes_append, marks_append, marks_unmarked}
 use Rattle.writer.specs.Filled.{filled_span}
 
@@ -36,14 +36,7 @@ pub wrote_back : (r : Bool) (a : ℕ) (xs old ys : List ℕ) → r ≡ true → 
     → put_mid a (length old - a) old ys ≡ laid_at a xs old
 wrote_back r a xs old ys e q = wrote_at r a xs old (put_mid a (length old - a) old ys) e (laid_back_if r a xs old ys q)
 
--- Content within the rule.
-pub content_bounds : (key body : List ℕ) → content_right key body ≡ true → (length key ≤ 255) × (length body ≤ 65535)
-unfolding content_right
-content_bounds key body e =
-    let h = and_both _ _ e in
-    (leb-true (length key) 255 h.0, leb-true (length body) 65535 h.1)
-
--- The same of what Add and Correct are told.
+-- The content of what Add and Correct are told is within the rule.
 pub wanted_bounds : (rule : GapRule) (key body : List ℕ) → wanted_right rule key body ≡ true → (length key ≤ 255) × (length body ≤ 65535)
 wanted_bounds rule key body e = content_bounds key body (wanted_parts rule key body e).1
 

@@ -5,15 +5,17 @@ ghost use Rattle.format.specs.Lent.{cells, bytes_of, marks_of};
 ghost use Rattle.format.specs.GapRule.{wanted_right};
 ghost use Rattle.format.specs.Written.{as_pair, sector_size, after, leaves};
 ghost use Rattle.format.specs.Add.{added_flag, add_cells, add};
-ghost use Rattle.encode.specs.Room.{sector_from};
+ghost use Rattle.encode.specs.Room.{as_sector};
 ghost use Rattle.encode.specs.Gap.{as_rule};
 ghost use Rattle.writer.specs.Filled.{filled_span};
 ghost use Rattle.writer.specs.Remaining.{ReadableFlag, Addable};
 
 use crate::{copy_kept, judge_room, lengths_agree, put_span, wanted_right};
+use format::Refusal;
 use format::layout::HOME_TO_COUNT;
 
 // The flag of a new sector in position i: B8 by its position, B7, and B2 B1 as in the home flag f.
+#[tactic(auto, unfolding(format::specs::Add::added_flag))]
 fn added_flag(f: u8, i: u8, b7: u8) -> u8
     requires { b7 ≤ 1 }
     ensures { result ≡ added_flag f i b7 }
@@ -21,7 +23,7 @@ fn added_flag(f: u8, i: u8, b7: u8) -> u8
     i % 2 * 128 + b7 * 64 + f % 4
 }
 
-// Writes the new track: what stands before place `end` as it was, the gap up to place `to`, the new sector, and the gap to index.
+// Writes the new track: what stands before place `end` as it was, the gap up to place `to`, the new sector x, and the gap to index.
 fn write_added(
     track: &[u8],
     marks: &[u8],
@@ -29,25 +31,22 @@ fn write_added(
     out_marks: &mut [u8],
     end: usize,
     to: usize,
-    flag: u8,
-    a: sector::Address,
-    s: u8,
-    key: &[u8],
-    body: &[u8],
+    x: encode::Sector,
 )
-    requires key_len_bound { (length key.now ≤ 255) × (length body.now ≤ 65535) }
-    requires end_le_to { (end ≤ to) × (to + sector_size false (length key.now) (length body.now) ≤ length track.now) }
+    requires key_len_bound { (length x.key.now ≤ 255) × (length x.body.now ≤ 65535) }
+    requires end_le_to { (end ≤ to) × (to + sector_size x.first (length x.key.now) (length x.body.now) ≤ length track.now) }
     requires marks_len { (length marks.now ≡ length track.now) × (length out.old ≡ length track.now) × (length out_marks.old ≡ length track.now) }
-    ensures bytes { out.new ≡ take end track.now ++ bytes_of (replicate (to - end) 0xFF ++ filled_span (length track.now - to) (sector_from false flag a.cylinder a.head s key.now body.now)) }
-    ensures marks { out_marks.new ≡ take end marks.now ++ marks_of (replicate (to - end) 0xFF ++ filled_span (length track.now - to) (sector_from false flag a.cylinder a.head s key.now body.now)) }
+    ensures bytes { out.new ≡ take end track.now ++ bytes_of (replicate (to - end) 0xFF ++ filled_span (length track.now - to) (as_sector x.entry)) }
+    ensures marks { out_marks.new ≡ take end marks.now ++ marks_of (replicate (to - end) 0xFF ++ filled_span (length track.now - to) (as_sector x.entry)) }
 {
     copy_kept(track, marks, out, out_marks, end);
     encode::fill_gap(out, out_marks, end, to);
     let l = track.len();
-    put_span(out, out_marks, to, l, false, flag, a, s, key, body);
+    put_span(out, out_marks, to, l, x);
 }
 
 // Add behind the last of the `count` sectors of an accepted track, at place `at`, where no sector carries S: 15, and then the new track is written.
+#[tactic(auto, using(crate::proofs::Filled::wanted_bounds, crate::proofs::Filled::size_most))]
 fn add_behind(
     rule: encode::GapRule,
     track: &[u8],
@@ -62,7 +61,7 @@ fn add_behind(
     s: u8,
     key: &[u8],
     body: &[u8],
-) -> format::Answer
+) -> Result<(), Refusal>
     requires addable { Addable track.now marks.now start at count f s }
     requires b7_bound { (b7 ≤ 1) × (wanted_right (as_rule rule) key.now body.now ≡ true) }
     requires out_len { (length out.old ≡ length track.now) × (length out_marks.old ≡ length track.now) }
@@ -74,14 +73,20 @@ fn add_behind(
     let end = last.end;
     let to = end + encode::gap_after(rule, kl, dl);
     let n = encode::sector_size(false, key.len() as u8, body.len() as u16);
-    let room = judge_room(track.len(), to + n);
-    if room.number == 0 {
-        let i = count as u8;
-        let flag = added_flag(f, i, b7);
-        let a = last.address;
-        write_added(track, marks, out, out_marks, end, to, flag, a, s, key, body);
-    }
-    room
+    judge_room(track.len(), to + n)?;
+    let i = count as u8;
+    let flag = added_flag(f, i, b7);
+    let x = encode::Sector {
+        first: false,
+        flag,
+        cylinder: last.address.cylinder,
+        head: last.address.head,
+        number: s,
+        key,
+        body,
+    };
+    write_added(track, marks, out, out_marks, end, to, x);
+    Ok(())
 }
 
 // Add on an accepted track whose sector 0 opens at place `start` and whose home has the flag f: 14, 13, 15, and then the new track is written.
@@ -97,35 +102,22 @@ fn add_on(
     s: u8,
     key: &[u8],
     body: &[u8],
-) -> format::Answer
+) -> Result<(), Refusal>
     requires readable_flag { ReadableFlag track.now marks.now start f }
     requires out_len { (length out.old ≡ length track.now) × (length out_marks.old ≡ length track.now) }
     ensures { after (as_answer result) out.new out_marks.new ≡ leaves (as_pair (add_cells (as_rule rule) (cells track.now marks.now) b7 s key.now body.now)) out.old out_marks.old }
 {
-    if 1 < b7 {
-        return format::wanted_wrong();
-    }
-    if !wanted_right(rule, key, body) {
-        return format::wanted_wrong();
+    if 1 < b7 || !wanted_right(rule, key, body) {
+        return Err(Refusal::WantedWrong);
     }
     let found = sectors::search_from(track, marks, start, s);
     if found.place < track.len() {
-        return format::sector_repeated(found.place);
+        return Err(Refusal::SectorRepeated(found.place));
     }
+    let at = found.before;
+    let n = found.count;
     add_behind(
-        rule,
-        track,
-        marks,
-        out,
-        out_marks,
-        start,
-        found.before,
-        found.count,
-        f,
-        b7,
-        s,
-        key,
-        body,
+        rule, track, marks, out, out_marks, start, at, n, f, b7, s, key, body,
     )
 }
 
@@ -140,20 +132,15 @@ pub fn add(
     key: &[u8],
     body: &[u8],
     rule: encode::GapRule,
-) -> format::Answer
+) -> Result<(), Refusal>
     ensures { after (as_answer result) new_track.new new_marks.new ≡ leaves (add (as_rule rule) track.now marks.now (length new_track.old) (length new_marks.old) b7 s key.now body.now) new_track.old new_marks.old }
 {
     if !lengths_agree(track.len(), new_track.len(), new_marks.len()) {
-        return format::lent_wrong();
+        return Err(Refusal::LentWrong);
     }
-    let judged = accepting::judge(track, marks);
-    match judged {
-        accepting::Judged::Accepted(h) => {
-            let start = h.place + HOME_TO_COUNT;
-            add_on(
-                rule, track, marks, new_track, new_marks, start, h.flag, b7, s, key, body,
-            )
-        }
-        accepting::Judged::Refused(a) => a,
-    }
+    let h = accepting::judge(track, marks)?;
+    let start = h.place + HOME_TO_COUNT;
+    add_on(
+        rule, track, marks, new_track, new_marks, start, h.flag, b7, s, key, body,
+    )
 }

@@ -6,7 +6,7 @@ use mathlib.Core.List.{List, [], ◌∷◌}
 use lib.ListN.{replicate}
 use Rattle.base.specs.Laid.{laid_at}
 use Rattle.base.proofs.Laid.{laid_next}
-use Rattle.encode.proofs.Openings.{opening_first, opening_later, marks_first, marks_later}
+use Rattle.encode.proofs.Openings.{opening_first, marks_first, marks_later}
 use Rattle.encode.proofs.put_marks.Goals as goal
 
 pub returns-then-first : goal.returns-then-first
@@ -15,15 +15,6 @@ returns-then-first c =
     let one = c.put_run in
     let e = c.if-first.true in
     one.ensures.bytes ∙ ap (λ (l : List ℕ). laid_at 0 l a.m.now) (sym (marks_first a.first a.n e (omega (arith, opening_first a.first e))))
-
-pub put_bytes-p-requires : goal.put_bytes-p-requires
-put_bytes-p-requires c = omega (arith, opening_later c.args.first c.if-first.false)
-
-pub overflow_sub-n : goal.overflow_sub-n
-overflow_sub-n c = omega (arith, opening_later c.args.first c.if-first.false)
-
-pub put_run-requires-2 : goal.put_run-requires-2
-put_run-requires-2 c = omega (arith, opening_later c.args.first c.if-first.false)
 
 pub returns : goal.returns
 returns c =

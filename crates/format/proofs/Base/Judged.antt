@@ -5,7 +5,9 @@ use native.Mathlib.Omega.{arith}
 use mathlib.Core.Bool.{Bool, true, false}
 use Rattle.base.proofs.Tests.{false-true}
 use Rattle.format.specs.Fault.{Fault, Tested, sound, faulty, demand}
-use Rattle.format.specs.Answer.{Answer}
+use Rattle.format.specs.Answer.{Answer, as_refusal}
+use Rattle.format.specs.declared.Refusal.{Refusal}
+use Rattle.format.specs.declared.Refusal.TheVariants.{LentWrong, HomeMissing, HomeCheckWrong, HomeFieldsWrong, MarkStray, FirstCountMissing, CountCheckWrong, CountFieldsWrong, SpanTooShort, KeyWrong, DataWrong, SectorMissing, SectorRepeated, WantedWrong, RoomMissing, PairWrong, PatternWrong, HeaderWrong, OffsetWrong, FileLengthWrong, SpareBitsSet, BufferTooShort}
 use Rattle.format.specs.Judged.{Judged, good, refused, then, require, require_sound, answer_of}
 
 pub good_inj : {A : Type 0} (x y : A) → ◌≡◌ {A = Judged A} (good x) (good y) → x ≡ y
@@ -102,3 +104,28 @@ then_zero (refused a) k e = e
 pub answer_then : {A B : Type 0} (j : Judged A) (f : A → B) → answer_of (then j (λ x. good (f x))) ≡ answer_of j
 answer_then (good x) f = refl
 answer_then (refused a) f = refl
+
+-- The answer of a refusal of the code is not 0.
+pub refusal_number : (e : Refusal) → (as_refusal e).number ≡ 0 → ⊥
+refusal_number LentWrong z = omega arith
+refusal_number HomeMissing z = omega arith
+refusal_number (HomeCheckWrong p) z = omega arith
+refusal_number (HomeFieldsWrong p) z = omega arith
+refusal_number (MarkStray p) z = omega arith
+refusal_number (FirstCountMissing p) z = omega arith
+refusal_number (CountCheckWrong p) z = omega arith
+refusal_number (CountFieldsWrong p) z = omega arith
+refusal_number (SpanTooShort p) z = omega arith
+refusal_number (KeyWrong f p) z = omega arith
+refusal_number (DataWrong f p) z = omega arith
+refusal_number SectorMissing z = omega arith
+refusal_number (SectorRepeated p) z = omega arith
+refusal_number WantedWrong z = omega arith
+refusal_number RoomMissing z = omega arith
+refusal_number PairWrong z = omega arith
+refusal_number (PatternWrong p) z = omega arith
+refusal_number HeaderWrong z = omega arith
+refusal_number OffsetWrong z = omega arith
+refusal_number FileLengthWrong z = omega arith
+refusal_number SpareBitsSet z = omega arith
+refusal_number BufferTooShort z = omega arith

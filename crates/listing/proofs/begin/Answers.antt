@@ -1,30 +1,24 @@
 -- `begin` meets its contract: the length of the list, then what Accept says, then the number of sectors.
-use mathlib.Core.Path.{◌∙◌}
-use native.Mathlib.Omega.{arith}
-use Rattle.listing.proofs.Beginning.{first_count_lem, counted, first_refused, begun_short, begun_refused, begun_good}
+use Rattle.std.proofs.Common.{arith}
+use Rattle.std.proofs.lemmas.Result.{err_from_is_err_and}
+use Rattle.listing.proofs.Beginning.{begun_short, begun_refused, begun_good, settled}
+use Rattle.listing.proofs.Listed.{listing}
 use Rattle.listing.proofs.begin.Goals as goal
 
-pub returns-then-n-lt67 : goal.returns-then-n-lt67
-returns-then-n-lt67 c =
+pub returns-then-n-lt-MOST_SECTORS-clause-result_value : goal.returns-then-n-lt-MOST_SECTORS-clause-result_value
+returns-then-n-lt-MOST_SECTORS-clause-result_value c =
     let a = c.args in
-    let w = c.lent_wrong in
-    c.refused.ensures ∙ begun_short a.n a.track.now a.marks.now w.result w.ensures (omega arith)
+    begun_short a.n a.track.now a.marks.now (omega arith)
 
-pub overflow_add-first : goal.overflow_add-first
-overflow_add-first c =
-    let j = rw c.in-Accepted.is at c.judge-judged.ensures in
-    omega (arith, j.track_in_window.1)
-
-pub returns-in-Accepted : goal.returns-in-Accepted
-returns-in-Accepted c =
+pub returns-in_err-home-clause-result_value : goal.returns-in_err-home-clause-result_value
+returns-in_err-home-clause-result_value c =
     let a = c.args in
-    let j = rw c.in-Accepted.is at c.judge-judged.ensures in
-    let d = c.done-answer in
-    let k = c.sector_count-count in
-    begun_good a.n a.track.now a.marks.now _ k.result d.result d.ensures (omega arith) (first_count_lem a.track.now a.marks.now _ j.result_value) (counted a.track.now a.marks.now _ _ j.result_value k.ensures)
+    let p = err_from_is_err_and c.from_residual.result c.from_residual.ensures.1 in
+    rw (p.1, p.2) (begun_refused a.n a.track.now a.marks.now _ (omega arith) c.in_err-home.ensures.result_value)
 
-pub returns-in-Refused : goal.returns-in-Refused
-returns-in-Refused c =
+pub returns : goal.returns
+returns c =
     let a = c.args in
-    let j = rw c.in-Refused.is at c.judge-judged.ensures in
-    c.refused-in-Refused.ensures ∙ begun_refused a.n a.track.now a.marks.now _ (omega arith) (first_refused a.track.now a.marks.now _ j.result_value)
+    let e = begun_good a.n a.track.now a.marks.now _ c.sector_count-count.result (omega arith) c.in_ok-home.ensures.result_value c.sector_count-count.ensures in
+    let s = settled a.n a.track.now a.marks.now _ e in
+    record { result_value = e; count_fits = omega (arith, s.count_is, (listing a.n a.track.now a.marks.now).count_fits_holds) }

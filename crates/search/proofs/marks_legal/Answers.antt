@@ -5,17 +5,17 @@ use native.Mathlib.Numerals.{add-one}
 use Rattle.search.proofs.Fold.{legal_turn, legal_end}
 use Rattle.search.proofs.marks_legal.Goals as goal
 
-pub loop-i-init : goal.loop-i-init
-loop-i-init c = (omega arith, refl)
+pub loop-mark-init : goal.loop-mark-init
+loop-mark-init c = refl
 
-pub loop-i-preserved : goal.loop-i-preserved
-loop-i-preserved c =
+pub loop-mark-preserved : goal.loop-mark-preserved
+loop-mark-preserved c =
     let m = c.args.marks.now in
-    let l = c.loop-i in
-    (omega arith, l.invariant.1 ∙ rw add-one (legal_turn m l.i l.any (omega arith)))
+    let l = c.loop-mark in
+    l.invariant ∙ rw add-one (legal_turn m l.mark-index l.any (omega arith))
 
 pub returns : goal.returns
 returns c =
     let m = c.args.marks.now in
-    let l = c.loop-i in
-    sym (l.invariant.1 ∙ legal_end m l.i l.any (omega arith))
+    let l = c.loop-mark in
+    sym (l.invariant ∙ legal_end m l.mark-index l.any (omega arith))

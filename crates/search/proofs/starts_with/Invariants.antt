@@ -1,6 +1,6 @@
 -- `starts_with` meets its contract: the opening stands there where the fold so far is 0 and what is left of it stands behind the cells compared.
 use mathlib.Core.Path.{◌≡◌}
-use Prim.Native.Nat.{◌+◌, ◌-◌, ◌≤◌}
+use Prim.Native.Nat.{◌+◌, ◌≤◌}
 use mathlib.Core.Bool.{◌&&◌}
 use lib.Dec.{eqb}
 use lib.ListN.{length, drop}
@@ -13,7 +13,3 @@ abbrev pub invariant-loop-k : goal.invariant-loop-k
 invariant-loop-k l =
     (l.k ≤ l.size) × (l.size ≡ length (cells l.opening l.marking)) × (l.size ≤ length (drop l.p (cells l.track l.marks)))
     × (starts_with (cells l.opening l.marking) (drop l.p (cells l.track l.marks)) ≡ (eqb l.any 0 && starts_with (drop l.k (cells l.opening l.marking)) (drop (l.p + l.k) (cells l.track l.marks))))
-
--- What falls with each turn: the number of cells left to compare.
-abbrev pub decreases-loop-k : goal.decreases-loop-k
-decreases-loop-k l = l.size - l.k

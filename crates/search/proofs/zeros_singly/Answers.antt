@@ -5,22 +5,22 @@ use Rattle.search.proofs.Zero.{zeros_on, zeros_off, zeros_none}
 use Rattle.search.proofs.zeros_singly.Goals as goal
 
 pub loop-i-init : goal.loop-i-init
-loop-i-init c = (omega arith, omega arith)
+loop-i-init c = omega arith
 
-pub returns-then-bytes-i-ne0 : goal.returns-then-bytes-i-ne0
-returns-then-bytes-i-ne0 c =
+pub returns-then-byte-ne0 : goal.returns-then-byte-ne0
+returns-then-byte-ne0 c =
     let s = c.args.bytes.now in
     let l = c.loop-i in
-    omega (arith, l.invariant.1, zeros_off s l.i (omega arith) c.if-bytes-i-ne0.true)
+    omega (arith, l.invariant, zeros_off s l.i (omega arith) c.if-byte-ne0.true)
 
 pub loop-i-preserved : goal.loop-i-preserved
 loop-i-preserved c =
     let s = c.args.bytes.now in
     let l = c.loop-i in
-    (omega arith, rw (add-one l.i) (omega (arith, l.invariant.1, zeros_on s l.i (omega arith) c.if-bytes-i-ne0.false)))
+    rw (add-one l.i) (omega (arith, l.invariant, zeros_on s l.i (omega arith) c.if-byte-ne0.false))
 
 pub returns : goal.returns
 returns c =
     let s = c.args.bytes.now in
     let l = c.loop-i in
-    omega (arith, l.invariant.1, zeros_none s l.i (omega arith))
+    omega (arith, l.invariant, zeros_none s l.i (omega arith))

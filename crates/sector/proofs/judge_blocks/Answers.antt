@@ -1,27 +1,26 @@
 -- `judge_blocks` meets its contract: the first of its three judgements that refuses gives the answer.
 use mathlib.Core.Path.{sym, ap, ◌∙◌}
+use Rattle.std.proofs.lemmas.Result.{err_from_is_err_and}
 use Rattle.format.specs.Answer.{Answer}
+use Rattle.format.proofs.Base.Judged.{refusal_number}
 use Rattle.sector.proofs.BlocksJudged.{blocks_short, blocks_key, blocks_data}
 use Rattle.sector.proofs.judge_blocks.Goals as goal
 
-pub returns-then-fit-ne0 : goal.returns-then-fit-ne0
-returns-then-fit-ne0 c =
+pub returns-in_err-judge_fit : goal.returns-in_err-judge_fit
+returns-in_err-judge_fit c =
     let a = c.args in
-    blocks_short a.first a.p a.last a.r.now _ c.judge_fit-fit.ensures c.if-fit-ne0.true
+    let p = err_from_is_err_and c.from_residual.result c.from_residual.ensures.1 in
+    rw (p.1, p.2) (blocks_short a.first a.p a.last a.r.now _ c.in_err-judge_fit.ensures (refusal_number _))
 
-pub returns-then-key-ne0 : goal.returns-then-key-ne0
-returns-then-key-ne0 c =
+pub returns-in_err-judge_key : goal.returns-in_err-judge_key
+returns-in_err-judge_key c =
     let a = c.args in
-    let f = c.judge_fit-fit.ensures in
-    blocks_key a.first a.p a.last a.r.now (sym (ap (λ (z : Answer). z.number) f) ∙ c.if-fit-ne0.false) _
-    c.judge_key-key.ensures
-    c.if-key-ne0.true
+    let p = err_from_is_err_and c.from_residual-in_err-judge_key.result c.from_residual-in_err-judge_key.ensures.1 in
+    rw (p.1, p.2) (blocks_key a.first a.p a.last a.r.now (sym (ap (λ (z : Answer). z.number) c.in_ok-judge_fit.ensures)) _ c.in_err-judge_key.ensures (refusal_number _))
 
 pub returns : goal.returns
 returns c =
     let a = c.args in
-    let f = c.judge_fit-fit.ensures in
-    let k = c.judge_key-key.ensures in
     c.judge_data.ensures
-    ∙ blocks_data a.first a.p a.last a.r.now (sym (ap (λ (z : Answer). z.number) f) ∙ c.if-fit-ne0.false)
-    (sym (ap (λ (z : Answer). z.number) k) ∙ c.if-key-ne0.false)
+    ∙ blocks_data a.first a.p a.last a.r.now (sym (ap (λ (z : Answer). z.number) c.in_ok-judge_fit.ensures))
+    (sym (ap (λ (z : Answer). z.number) c.in_ok-judge_key.ensures))

@@ -11,11 +11,11 @@ use Rattle.format.specs.Sector.{Sector}
 use Rattle.format.specs.Written.{written_sector}
 use Rattle.format.proofs.Track.Pairs.{length_bytes, length_marks}
 use Rattle.base.specs.Laid.{laid_at}
-use Rattle.encode.specs.Room.{sector_from}
+use Rattle.encode.specs.Room.{as_sector}
 use Rattle.base.proofs.Laid.{length_laid}
 use Rattle.encode.proofs.Room.{gap_fits_lem}
 use Rattle.format.proofs.Sector.ReadBack.{length_written}
-use Rattle.encode.proofs.Sectors.{sector_fits_lem}
+use Rattle.encode.proofs.Sectors.{content_within, sector_fits_lem}
 use Rattle.writer.proofs.Filled.{wrote_at, wrote_back, span_bytes, span_marks}
 use Rattle.base.proofs.Lists.{part_all_length}
 use Rattle.writer.proofs.put_span.Goals as goal
@@ -25,12 +25,12 @@ returns c =
     let a = c.args in
     let one = c.write_sector in
     let two = c.fill_gap in
-    let S : Sector = sector_from a.first a.flag a.a.cylinder a.a.head a.s a.key.now a.body.now in
+    let S : Sector = as_sector a.x in
     let n = c.sector_size-n.result in
     let size : n ≡ length (written_sector S) = c.sector_size-n.ensures ∙ sym (length_written S) in
     let T = a.track.now in
     let M = a.marks.now in
-    let wrote : one.result ≡ true = one.ensures.answer ∙ sector_fits_lem S _ _ n size (omega (arith, c.requires)) (omega (arith, c.requires)) (omega (arith, c.requires, part_all_length a.p T)) (omega (arith, c.requires, part_all_length a.p M)) in
+    let wrote : one.result ≡ true = one.ensures.answer ∙ sector_fits_lem S _ _ n size (content_within a.x.key.now a.x.body.now c.requires.key_len_bound) (omega (arith, c.requires, part_all_length a.p T)) (omega (arith, c.requires, part_all_length a.p M)) in
     let T1 : List ℕ = put_mid a.p (length T - a.p) T one.new.track in
     let M1 : List ℕ = put_mid a.p (length M - a.p) M one.new.marks in
     let laid_t : T1 ≡ laid_at a.p (bytes_of (written_sector S)) T = wrote_back one.result a.p (bytes_of (written_sector S)) T one.new.track wrote one.ensures.bytes in

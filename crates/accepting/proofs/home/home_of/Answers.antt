@@ -4,4 +4,4 @@ use Rattle.accepting.proofs.home.home_of.Goals as goal
 
 pub returns : goal.returns
 unfolding home_of
-returns c = rw (c.byte_at-flag.ensures, c.address_in-address.ensures)
+returns c = rw (c.byte_at.ensures, c.address_in.ensures)

@@ -1,22 +1,22 @@
 -- `judge_fields` meets its contract: the two tests in turn.
-use mathlib.Core.Path.{sym, ap, ◌∙◌}
-use Rattle.format.specs.Judged.{Judged, refused}
+use Rattle.std.proofs.Common.{sym, ap, ◌∙◌}
 use Rattle.format.specs.Home.{Home, judge_home_of}
 use Rattle.accepting.proofs.AcceptHome.{place_of}
 use Rattle.accepting.proofs.home.judge_fields.Goals as goal
 
-pub returns-then-home_fields_right : goal.returns-then-home_fields_right
+pub returns-then-not-closed_after-clause-result_value : goal.returns-then-not-closed_after-clause-result_value
 unfolding judge_home_of
-returns-then-home_fields_right c =
-    let h = c.home_of-h.ensures in
-    record { result_value = rw (sym c.closed_after.ensures ∙ c.if-closed_after.true, ← h, sym c.home_fields_right.ensures ∙ c.if-home_fields_right.true); home_starts_at = ap (λ (x : Home). x.place) h ∙ place_of _ _ }
+returns-then-not-closed_after-clause-result_value c = rw (sym c.closed_after.ensures ∙ c.if-not-closed_after.true)
 
-pub returns-else-home_fields_right : goal.returns-else-home_fields_right
+pub returns-then-not-home_fields_right-clause-result_value : goal.returns-then-not-home_fields_right-clause-result_value
 unfolding judge_home_of
-returns-else-home_fields_right c =
-    let h = c.home_of-h.ensures in
-    record { result_value = rw (sym c.closed_after.ensures ∙ c.if-closed_after.true, ← h, sym c.home_fields_right.ensures ∙ c.if-home_fields_right.false) (ap {B = Judged Home} refused c.home_fields_wrong.ensures); home_starts_at = tt }
+returns-then-not-home_fields_right-clause-result_value c =
+    rw (sym c.closed_after.ensures ∙ c.if-not-closed_after.false, ← c.home_of-h.ensures, sym c.home_fields_right.ensures ∙ c.if-not-home_fields_right.true)
 
-pub returns-else-closed_after : goal.returns-else-closed_after
+pub returns-clause-result_value : goal.returns-clause-result_value
 unfolding judge_home_of
-returns-else-closed_after c = record { result_value = rw (sym c.closed_after.ensures ∙ c.if-closed_after.false) (ap {B = Judged Home} refused c.home_check_wrong.ensures); home_starts_at = tt }
+returns-clause-result_value c =
+    rw (sym c.closed_after.ensures ∙ c.if-not-closed_after.false, ← c.home_of-h.ensures, sym c.home_fields_right.ensures ∙ c.if-not-home_fields_right.false)
+
+pub returns-clause-home_starts_at : goal.returns-clause-home_starts_at
+returns-clause-home_starts_at c = ap (λ (x : Home). x.place) c.home_of-h.ensures ∙ place_of _ _

@@ -1,8 +1,5 @@
 -- `judge_marks` meets its contract: what is left behind each opening decides, and the table has the openings passed.
-use mathlib.Core.Path.{◌≡◌}
-use Prim.Native.Nat.{◌-◌, ◌*◌, ◌≤◌}
-use mathlib.Core.List.{◌++◌}
-use lib.ListN.{length, take, drop}
+use Rattle.std.proofs.Common.{◌≡◌, ◌-◌, ◌*◌, ◌≤◌, ◌++◌, length, take, drop}
 use Rattle.format.specs.Lent.{cells}
 use Rattle.format.specs.Accept.{judge_marks}
 use Rattle.accepting.specs.Starts.{starts_in, most_openings}
@@ -11,9 +8,13 @@ use Rattle.accepting.proofs.marks.judge_marks.Given as goal
 -- What holds at each turn: no mark before place q is stray, and the first k places of the table are those of the openings before q.
 abbrev pub invariant-loop-q : goal.invariant-loop-q
 invariant-loop-q l =
-    (l.q ≤ l.n) × (l.k * 8 ≤ l.q) × (length l.starts ≡ most_openings)
-    × (judge_marks l.e 0 0 (cells l.track l.marks) ≡ judge_marks l.e 0 l.q (drop l.q (cells l.track l.marks)))
-    × (starts_in 0 (cells l.track l.marks) ≡ take l.k l.starts ++ starts_in l.q (drop l.q (cells l.track l.marks)))
+    record {
+      within : l.q ≤ l.n;
+      few : l.k * 8 ≤ l.q;
+      size : length l.starts ≡ most_openings;
+      judged : judge_marks l.e 0 0 (cells l.track l.marks) ≡ judge_marks l.e 0 l.q (drop l.q (cells l.track l.marks));
+      listed : starts_in 0 (cells l.track l.marks) ≡ take l.k l.starts ++ starts_in l.q (drop l.q (cells l.track l.marks));
+    }
 
 -- What falls with each turn: the number of cells left.
 abbrev pub decreases-loop-q : goal.decreases-loop-q

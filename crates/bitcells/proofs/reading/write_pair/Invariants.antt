@@ -1,7 +1,5 @@
 -- `write_pair` meets its contract: at each turn the bytes and marks passed are written.
 use mathlib.Core.Path.{◌≡◌}
-use Prim.Native.Nat.{◌-◌, ◌≤◌}
-use lib.ListN.{length}
 use Rattle.pattern.specs.Pattern.{data_in, mark_in}
 use Rattle.bitcells.specs.Each.{each_pattern}
 use Rattle.base.proofs.Filled.{filled}
@@ -10,10 +8,5 @@ use Rattle.bitcells.proofs.reading.write_pair.Given as goal
 -- What holds at each turn: the first i bytes and marks are written.
 abbrev pub invariant-loop-i : goal.invariant-loop-i
 invariant-loop-i l =
-    (l.i ≤ l.n) × (length l.track ≡ length l.initial.track) × (length l.marks ≡ length l.initial.marks)
-    × (l.track ≡ filled (each_pattern data_in l.bit_cells) l.i l.initial.track)
+    (l.track ≡ filled (each_pattern data_in l.bit_cells) l.i l.initial.track)
     × (l.marks ≡ filled (each_pattern mark_in l.bit_cells) l.i l.initial.marks)
-
--- What falls with each turn: the number of bytes left.
-abbrev pub decreases-loop-i : goal.decreases-loop-i
-decreases-loop-i l = l.n - l.i

@@ -1,20 +1,12 @@
 -- `write_cells` meets its contract: at each turn the cell bytes of the bytes passed are written.
-use mathlib.Core.Path.{◌≡◌, refl, sym, ap, ◌∙◌}
+use mathlib.Core.Path.{◌≡◌, sym, ap, ◌∙◌}
 use Prim.Native.Nat.{ℕ, ◌+◌, ◌*◌}
 use native.Mathlib.Omega.{arith}
-use lib.ListN.{set, length-set}
+use lib.ListN.{set}
 use Rattle.bitcells.specs.ToCells.{written_cells}
 use Rattle.bitcells.proofs.Each.{length_written, get_d_first, get_d_second}
 use Rattle.base.proofs.Filled.{filled, filled_more, filled_all}
 use Rattle.bitcells.proofs.writing.write_cells.Goals as goal
-
-pub loop-i-init : goal.loop-i-init
-loop-i-init c = (omega arith, refl, refl)
-
-pub bounds-bit_cells-at-in-loop-i : goal.bounds-bit_cells-at-in-loop-i
-bounds-bit_cells-at-in-loop-i c =
-    let l = c.loop-i in
-    omega (arith, length-set l.bit_cells (2 * l.i) c.first_cells.result)
 
 pub loop-i-preserved : goal.loop-i-preserved
 loop-i-preserved c =
@@ -28,17 +20,14 @@ loop-i-preserved c =
     let u = c.first_cells in
     let w = c.second_cells in
     let one : set l.bit_cells (2 * l.i) u.result ≡ filled all (2 * l.i + 1) old =
-    filled_more all old l.bit_cells (2 * l.i) u.result 0 (omega arith) (omega arith) l.invariant.2 (u.ensures ∙ sym (get_d_first t m l.i (omega arith) (omega arith))) in
+    filled_more all old l.bit_cells (2 * l.i) u.result 0 (omega arith) (omega arith) l.invariant (u.ensures ∙ sym (get_d_first t m l.i (omega arith) (omega arith))) in
     let two = filled_more all old (set l.bit_cells (2 * l.i) u.result) (2 * l.i + 1) w.result 0 (omega arith) (omega arith) one (w.ensures ∙ sym (get_d_second t m l.i (omega arith) (omega arith))) in
     let k : 2 * l.i + 1 + 1 ≡ 2 * (l.i + 1) = omega arith in
-    (omega arith, simp length-set l.invariant.1, two ∙ ap (λ (z : ℕ). filled all z old) k)
-
-pub shape_of-bit_cells : goal.shape_of-bit_cells
-shape_of-bit_cells c = c.loop-i.invariant.1
+    two ∙ ap (λ (z : ℕ). filled all z old) k
 
 pub returns : goal.returns
 returns c =
     let a = c.args in
     let l = c.loop-i in
     filled_all (written_cells a.track.now a.marks.now) a.bit_cells.now l.bit_cells (2 * l.i)
-    (omega (arith, length_written a.track.now a.marks.now)) (omega arith) l.invariant.2
+    (omega (arith, length_written a.track.now a.marks.now)) (omega arith) l.invariant

@@ -1,44 +1,19 @@
--- `remainder_wide` meets its contract: at each turn the lanes of the words are the remainder of the bytes behind the remaining ones.
-use mathlib.Core.Path.{◌≡◌, refl, sym, ap, ap₂, ◌∙◌}
-use Prim.Native.Nat.{ℕ, ◌-◌, ◌<◌}
-use native.Mathlib.Omega.{arith}
-use lib.ListN.{get_or, take, length-drop}
-use lib.Seq.{drop-length}
-use lib.Bits.{bit_xor, xor_comm}
-use Rattle.crc.specs.Check.{remainder, coefficients}
+-- `remainder_wide` meets its contract: each word is added to the words whose lanes are the remainder of the bytes passed.
+use Rattle.std.proofs.Common.{◌≡◌, ◌∙◌, ◌%◌, length, take, ap, ℕ, arith}
+use native.Mathlib.Nat.{add-zero}
+use Rattle.crc.specs.Check.{coefficients, remainder}
 use Rattle.crc.specs.Word.{lanes}
-use Rattle.crc.proofs.Parts.{remainder_cut}
-use Rattle.crc.proofs.Lanes.{lanes_xor, lanes_none, lanes_turn}
 use Rattle.crc.proofs.Front.{front_lanes}
+use Rattle.crc.proofs.Pieces.{word_added}
 use Rattle.crc.proofs.wide.remainder_wide.Goals as goal
 
-pub returns-then-bytes-lt8 : goal.returns-then-bytes-lt8
-returns-then-bytes-lt8 c = c.remainder_of.ensures
-
-pub loop-remaining-init : goal.loop-remaining-init
-loop-remaining-init c = rw (drop-length c.args.bytes.now) (omega arith, omega arith, refl, lanes_none)
-
-pub loop-remaining-preserved : goal.loop-remaining-preserved
-loop-remaining-preserved c =
+pub loop-word-init : goal.loop-word-init
+loop-word-init c =
     let s = c.args.bytes.now in
-    let l = c.loop-remaining in
-    let byte : (i : ℕ) → get_or s i 0 < 256 = λ i. omega (arith, c.type_inv.bytes i) in (
-      omega arith,
-      omega arith,
-      omega (arith, l.invariant.2, length-drop l.remaining s, length-drop (l.remaining - 8) s),
-      lanes_turn s l.remaining (l.remaining - 8) l.words c.word_at-words.result byte (omega arith) (omega arith) l.invariant.2 c.word_at-words.ensures l.invariant.3,
-    )
+    let n : length c.as_rchunks.result.0.now ≡ length s % 8 = c.as_rchunks.ensures.front_len in
+    rw (add-zero (length s % 8)) (ap (lanes 4) c.front_word-sum.ensures ∙ front_lanes s (length c.as_rchunks.result.0.now) (λ i. omega (arith, c.type_inv.bytes i)) (omega arith) (omega arith) ∙ ap (λ (k : ℕ). remainder 0 (coefficients (take k s))) n)
 
-pub returns : goal.returns
-returns c =
-    let s = c.args.bytes.now in
-    let l = c.loop-remaining in
-    let byte : (i : ℕ) → get_or s i 0 < 256 = λ i. omega (arith, c.type_inv.bytes i) in
-    let front : lanes 4 c.front_word.result ≡ remainder 0 (coefficients (take l.remaining s)) =
-    ap (lanes 4) c.front_word.ensures ∙ front_lanes s l.remaining byte (omega arith) l.invariant.0 in
-    let given : c.lanes_of.result ≡ lanes 4 (bit_xor l.words c.front_word.result) = c.lanes_of.ensures in
-    given
-    ∙ lanes_xor 4 l.words c.front_word.result
-    ∙ xor_comm (lanes 4 l.words) (lanes 4 c.front_word.result)
-    ∙ ap₂ bit_xor front l.invariant.3
-    ∙ sym (remainder_cut l.remaining s l.invariant.2)
+pub loop-word-preserved : goal.loop-word-preserved
+loop-word-preserved c =
+    let l = c.loop-word in
+    word_added l.word-index l.sum c.from_le_bytes-sum.result c.args.bytes.now c.as_rchunks.result.1.now (λ i. omega (arith, c.type_inv.bytes i)) c.as_rchunks.ensures.back (omega arith) c.from_le_bytes-sum.ensures l.invariant

@@ -1,33 +1,29 @@
--- `put_bits` meets its contract.
-use native.Mathlib.Omega.{arith}
-use lib.ListN.{length-set}
-use lib.Seq.{sets-eq}
+-- `put_bits` meets its contract: at each turn the bits passed are written.
+use Rattle.std.proofs.Common.{◌≡◌, length, refl, sym, ◌∙◌, arith}
+use lib.ListN.{drop_of_length-le}
+use mathlib.Core.List.{append-nil}
+use Rattle.base.specs.Indexed.{join_to, list_to}
 use Rattle.base.specs.Laid.{laid_over}
+use Rattle.base.proofs.Indexed.{length_list}
+use Rattle.base.proofs.Filling.{list_store}
 use Rattle.cylinder.specs.Packed.{bit_of}
-use Rattle.cylinder_reader.specs.Bits.{bits_of}
 use Rattle.cylinder_reader.proofs.unpacking.put_bits.Goals as goal
 
-pub bounds-out-1 : goal.bounds-out-1
-bounds-out-1 c = simp length-set (omega arith)
+pub loop-k-init : goal.loop-k-init
+unfolding laid_over join_to
+loop-k-init c = refl
 
-pub bounds-out-2 : goal.bounds-out-2
-bounds-out-2 c = simp length-set (omega arith)
-
-pub bounds-out-3 : goal.bounds-out-3
-bounds-out-3 c = simp length-set (omega arith)
-
-pub bounds-out-4 : goal.bounds-out-4
-bounds-out-4 c = simp length-set (omega arith)
-
-pub bounds-out-5 : goal.bounds-out-5
-bounds-out-5 c = simp length-set (omega arith)
-
-pub bounds-out-6 : goal.bounds-out-6
-bounds-out-6 c = simp length-set (omega arith)
-
-pub bounds-out-7 : goal.bounds-out-7
-bounds-out-7 c = simp length-set (omega arith)
+pub loop-k-preserved : goal.loop-k-preserved
+loop-k-preserved c =
+    let l = c.loop-k in
+    list_store (bit_of c.args.x) l.k c.bit_of.result c.args.out.now l.out (omega arith) l.invariant c.bit_of.ensures
 
 pub returns : goal.returns
-unfolding laid_over bits_of bit_of
-returns c = sets-eq (bits_of c.args.x) c.args.out.now 0 (omega arith)
+unfolding laid_over
+returns c =
+    let l = c.loop-k in
+    let old = c.args.out.now in
+    let xs = list_to (bit_of c.args.x) (length old) in
+    let e : l.k ≡ length old = omega arith in
+    let n : length old ≡ length xs = sym (length_list (bit_of c.args.x) (length old)) in
+    rw e at l.invariant ∙ rw (drop_of_length-le old {i = length xs} (omega arith), append-nil xs)

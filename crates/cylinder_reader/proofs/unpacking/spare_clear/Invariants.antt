@@ -1,13 +1,8 @@
 -- `spare_clear` meets its contract: at each turn no bit passed is set.
-use mathlib.Core.Path.{◌≡◌}
-use Prim.Native.Nat.{ℕ, ◌-◌, ◌≤◌, ◌<◌}
-use Rattle.cylinder.specs.Packed.{mark_at}
+use Rattle.std.proofs.Common.{◌≡◌, ℕ, ◌/◌, ◌<◌, ◌≤◌, get_or}
+use Rattle.cylinder.specs.Packed.{bit_of}
 use Rattle.cylinder_reader.proofs.unpacking.spare_clear.Given as goal
 
--- What holds at each turn: no bit from l up to i is set.
-abbrev pub invariant-loop-i : goal.invariant-loop-i
-invariant-loop-i l = (l.l ≤ l.i) × (l.i ≤ l.n) × ((j : ℕ) → l.l ≤ j → j < l.i → mark_at l.bytes j ≡ 0)
-
--- What falls with each turn: the number of bits left.
-abbrev pub decreases-loop-i : goal.decreases-loop-i
-decreases-loop-i l = l.n - l.i
+-- What holds at each turn: no spare bit of the last byte before bit k is set.
+abbrev pub invariant-loop-k : goal.invariant-loop-k
+invariant-loop-k l = (j : ℕ) → l.used ≤ j → j < l.k → bit_of (get_or l.bytes (l.l / 8) 0) j ≡ 0

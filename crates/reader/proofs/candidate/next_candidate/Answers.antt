@@ -7,19 +7,13 @@ use Rattle.search.specs.Place.{judged_place}
 use Rattle.reader.proofs.CandidateNext.{candidates_end, candidates_here, candidates_later}
 use Rattle.reader.proofs.candidate.next_candidate.Goals as goal
 
-pub loop-p-init : goal.loop-p-init
-loop-p-init c = (c.cell_count-n.ensures.value, c.next_place-p.ensures.1)
-
-pub returns-in-Stands : goal.returns-in-Stands
-returns-in-Stands c =
+pub returns-in-Some : goal.returns-in-Some
+returns-in-Some c =
     let a = c.args in
     let x = c.loop-p in
     let h = judged_place a.home in
     let d = cells a.track.now a.marks.now in
-    sym (ap (take 1) x.invariant.1 ∙ candidates_here h x.p d _ (omega arith) (rw c.in-Stands.is at c.stands_at.ensures))
-
-pub loop-p-smaller : goal.loop-p-smaller
-loop-p-smaller c = omega (arith, c.next_place-p-in-loop-p.ensures.0)
+    sym (ap (take 1) x.invariant.1 ∙ candidates_here h x.p d _ (omega arith) c.in-Some.ensures)
 
 pub loop-p-preserved : goal.loop-p-preserved
 loop-p-preserved c =
@@ -27,7 +21,7 @@ loop-p-preserved c =
     let x = c.loop-p in
     let h = judged_place a.home in
     let d = cells a.track.now a.marks.now in
-    (x.invariant.0, x.invariant.1 ∙ candidates_later h x.p d (omega arith) (rw c.in-Not.is at c.stands_at.ensures) ∙ c.next_place-p-in-loop-p.ensures.1)
+    (x.invariant.0, x.invariant.1 ∙ candidates_later h x.p d (omega arith) c.in_default.ensures ∙ c.next_place-p-in-loop-p.ensures.1)
 
 pub returns : goal.returns
 returns c =

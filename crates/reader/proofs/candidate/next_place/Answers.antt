@@ -1,44 +1,31 @@
 -- `next_place` meets its contract: no count opens before the next marked opening, but for sector 0's.
-use mathlib.Core.Path.{refl}
+use mathlib.Core.Path.{◌≡◌}
 use native.Mathlib.Omega.{arith}
 use Rattle.format.specs.Answer.{home_missing}
+use Rattle.format.specs.Home.{first_count_place}
 use Rattle.format.specs.Lent.{cells}
 use Rattle.reader.proofs.CandidatePlaces.{place_nowhere, place_marked, place_first}
 use Rattle.reader.proofs.candidate.next_place.Goals as goal
+use Rattle.reader.proofs.candidate.next_place.Goals.{else-p-first-via-then-p-first+else-first-q, else-p-first-via-else-p-first}
 
-pub returns-then-opens_marked : goal.returns-then-opens_marked
-returns-then-opens_marked c = (omega arith, refl)
-
-pub returns-then-q-le-HOME_TO_COUNT : goal.returns-then-q-le-HOME_TO_COUNT
-returns-then-q-le-HOME_TO_COUNT c =
+pub returns-in_default : goal.returns-in_default
+returns-in_default c =
     let a = c.args in
     let q = c.next_opening-q in
-    let d = cells a.track.now a.marks.now in
-    rw c.in-At.is (place_marked a.p q.result d q.ensures c.in-At.h (λ l u. omega arith))
+    rw c.in_default.is (place_nowhere a.p q.result (cells a.track.now a.marks.now) q.ensures home_missing)
 
-pub returns-then-q-h : goal.returns-then-q-h
-returns-then-q-h c =
+pub returns-then-first-q : goal.returns-then-first-q
+returns-then-first-q c =
     let a = c.args in
     let q = c.next_opening-q in
-    let d = cells a.track.now a.marks.now in
-    rw c.in-At.is (place_marked a.p q.result d q.ensures c.in-At.h (λ l u. omega arith))
+    let e : c.saturating_add-first.result ≡ first_count_place c.in-Some.h = omega (arith, c.saturating_add-first.ensures) in
+    rw (c.in-Some.is, e) (place_first a.p q.result (cells a.track.now a.marks.now) q.ensures c.in-Some.h (omega arith) (omega arith))
 
-pub returns-then-h-p : goal.returns-then-h-p
-returns-then-h-p c =
+pub returns-else-p-first : goal.returns-else-p-first
+returns-else-p-first c =
     let a = c.args in
     let q = c.next_opening-q in
-    let d = cells a.track.now a.marks.now in
-    rw c.in-At.is (place_marked a.p q.result d q.ensures c.in-At.h (λ l u. omega arith))
-
-pub returns-else-h-p : goal.returns-else-h-p
-returns-else-h-p c =
-    let a = c.args in
-    let q = c.next_opening-q in
-    let d = cells a.track.now a.marks.now in
-    rw c.in-At.is (place_first a.p q.result d q.ensures c.in-At.h (omega arith) (omega arith))
-
-pub returns-in-Nowhere : goal.returns-in-Nowhere
-returns-in-Nowhere c =
-    let a = c.args in
-    let q = c.next_opening-q in
-    rw c.in-Nowhere.is (place_nowhere a.p q.result (cells a.track.now a.marks.now) q.ensures home_missing)
+    let e = c.saturating_add-first.ensures in
+    rw c.in-Some.is
+    (place_marked a.p q.result (cells a.track.now a.marks.now) q.ensures c.in-Some.h
+    (λ l u. elim c.else-p-first.branch [ else-p-first-via-then-p-first+else-first-q w ↦ omega arith | else-p-first-via-else-p-first w ↦ omega arith ]))

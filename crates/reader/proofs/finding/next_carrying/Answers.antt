@@ -1,5 +1,5 @@
 -- `next_carrying` meets its contract: what carries S is what carries it of what is left.
-use mathlib.Core.Path.{◌≡◌, refl, sym, ap, ◌∙◌}
+use mathlib.Core.Path.{◌≡◌, sym, ap, ◌∙◌}
 use Prim.Native.Nat.{ℕ, ◌+◌}
 use native.Mathlib.Omega.{arith}
 use lib.ListN.{length, take, drop, length-take, length-drop}
@@ -15,17 +15,14 @@ use Rattle.reader.proofs.CandidateBehind.{candidates_behind}
 use Rattle.reader.proofs.FindPart.{carrying_here, carrying_other}
 use Rattle.reader.proofs.finding.next_carrying.Goals as goal
 
-pub loop-x-init : goal.loop-x-init
-loop-x-init c = refl
-
 pub returns-then-byte_at-s : goal.returns-then-byte_at-s
 returns-then-byte_at-s c =
     let a = c.args in
     let l = c.loop-x in
     let h = judged_place a.home in
     let d = cells a.track.now a.marks.now in
-    let x = as_candidate a.track.now c.in-Stands.x in
-    let f = candidates_first h l.p d x (rw c.in-Stands.is at c.next_candidate.ensures) in
+    let x = as_candidate a.track.now c.in-Some.x in
+    let f = candidates_first h l.p d x c.in-Some.ensures in
     let n : count_number x.rest ≡ a.s = sym (c.byte_at.ensures ∙ ap count_number c.rest_of-rest.ensures) ∙ c.if-byte_at-s.true in
     sym (ap (take 1) (l.invariant ∙ ap (carrying a.s) f.2 ∙ carrying_here a.s x (candidates_at h (x.place + 1) d) n))
 
@@ -35,9 +32,9 @@ place_behind-p-requires c =
     let l = c.loop-x in
     let t = a.track.now in
     let d = cells t a.marks.now in
-    let y = c.in-Stands.x in
+    let y = c.in-Some.x in
     let q : ℕ = y.place + opening_length y.first in
-    let f = candidates_first (judged_place a.home) l.p d (as_candidate t y) (rw c.in-Stands.is at c.next_candidate.ensures) in
+    let f = candidates_first (judged_place a.home) l.p d (as_candidate t y) c.in-Some.ensures in
     omega (arith, f.1, length_cells t a.marks.now, ap length c.rest_of-rest.ensures, length-take y.size (drop q t), length-drop q t)
 
 pub loop-x-smaller : goal.loop-x-smaller
@@ -46,8 +43,8 @@ loop-x-smaller c =
     let l = c.loop-x in
     let h = judged_place a.home in
     let d = cells a.track.now a.marks.now in
-    let x = as_candidate a.track.now c.in-Stands.x in
-    let e = rw c.in-Stands.is at c.next_candidate.ensures in
+    let x = as_candidate a.track.now c.in-Some.x in
+    let e = c.in-Some.ensures in
     let f = candidates_first h l.p d x e in
     let b = candidates_behind a.home l.p d x c.requires e c.place_behind-p.result (length c.rest_of-rest.result.now) (ap length c.rest_of-rest.ensures) c.place_behind-p.ensures in
     omega (arith, f.0, f.1, b.0)
@@ -58,8 +55,8 @@ loop-x-preserved c =
     let l = c.loop-x in
     let h = judged_place a.home in
     let d = cells a.track.now a.marks.now in
-    let x = as_candidate a.track.now c.in-Stands.x in
-    let e = rw c.in-Stands.is at c.next_candidate.ensures in
+    let x = as_candidate a.track.now c.in-Some.x in
+    let e = c.in-Some.ensures in
     let f = candidates_first h l.p d x e in
     let n = c.byte_at.ensures ∙ ap count_number c.rest_of-rest.ensures in
     let b = candidates_behind a.home l.p d x c.requires e c.place_behind-p.result (length c.rest_of-rest.result.now) (ap length c.rest_of-rest.ensures) c.place_behind-p.ensures in
@@ -68,11 +65,11 @@ loop-x-preserved c =
     ∙ carrying_other a.s x (candidates_at h (x.place + 1) d) (λ q. c.if-byte_at-s.false (n ∙ q))
     ∙ ap (carrying a.s) b.1
 
-pub returns-in-Not : goal.returns-in-Not
+pub returns : goal.returns
 unfolding carrying
-returns-in-Not c =
+returns c =
     let a = c.args in
     let l = c.loop-x in
     let h = judged_place a.home in
     let d = cells a.track.now a.marks.now in
-    sym (ap (take 1) (l.invariant ∙ ap (carrying a.s) (none_first (candidates_at h l.p d) (rw c.in-Not.is at c.next_candidate.ensures))))
+    sym (ap (take 1) (l.invariant ∙ ap (carrying a.s) (none_first (candidates_at h l.p d) c.in_default.ensures)))

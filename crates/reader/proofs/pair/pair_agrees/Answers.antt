@@ -18,4 +18,5 @@ returns-then-names c =
 pub returns-else-names : goal.returns-else-names
 returns-else-names c =
     let a = c.args in
-    sym (agrees_other (as_home a.h) (cells a.track.now a.marks.now) (as_home a.g) (cells a.second.now a.second_marks.now) c.if-g-ne1.false (sym c.names.ensures ∙ c.if-names.false))
+    c.if-names.false
+    ∙ sym (agrees_other (as_home a.h) (cells a.track.now a.marks.now) (as_home a.g) (cells a.second.now a.second_marks.now) c.if-g-ne1.false (sym c.names.ensures ∙ c.if-names.false))

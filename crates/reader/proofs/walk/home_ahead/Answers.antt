@@ -1,11 +1,7 @@
 -- `home_ahead` meets its contract: behind the last place of sector 0's count home plays no part.
-use mathlib.Core.Path.{ap}
-use Prim.Native.Nat.{ℕ}
 use native.Mathlib.Omega.{arith}
 use Rattle.format.specs.Answer.{home_missing}
-use Rattle.format.specs.Judged.{Judged}
 use Rattle.format.specs.Lent.{cells}
-use Rattle.reader.proofs.CandidateNext.{candidates_at}
 use Rattle.reader.proofs.CandidatePlaces.{home_behind}
 use Rattle.reader.proofs.walk.home_ahead.Goals as goal
 
@@ -13,8 +9,3 @@ pub returns-then-from-gt-LAST_FIRST_COUNT : goal.returns-then-from-gt-LAST_FIRST
 returns-then-from-gt-LAST_FIRST_COUNT c =
     let a = c.args in
     home_behind a.from (cells a.track.now a.marks.now) home_missing (omega arith)
-
-pub returns : goal.returns
-returns c =
-    let a = c.args in
-    ap (λ (h : Judged ℕ). candidates_at h a.from (cells a.track.now a.marks.now)) c.find_home.ensures.result_value

@@ -2,12 +2,12 @@
 use mathlib.Core.Path.{◌≡◌, ◌∙◌}
 use Prim.Native.Nat.{◌+◌, ◌≤◌}
 use native.Mathlib.Omega.{arith}
-use mathlib.Core.Bool.{true, false}
+use mathlib.Core.Bool.{true}
 use lib.ListN.{length, take}
 use lib.Seq.{length-take-le}
 use Rattle.format.specs.Sector.{Sector}
 use Rattle.format.specs.Written.{written_sector}
-use Rattle.encode.specs.Room.{sector_from}
+use Rattle.encode.specs.Room.{as_sector}
 use Rattle.encode.proofs.Room.{gap_fits_lem}
 use Rattle.format.proofs.Sector.ReadBack.{length_written}
 use Rattle.writer.proofs.Filled.{wrote_at}
@@ -23,7 +23,7 @@ returns c =
     let three = c.put_span in
     let t = a.track.now in
     let m = a.marks.now in
-    let S : Sector = sector_from false a.flag a.a.cylinder a.a.head a.s a.key.now a.body.now in
+    let S : Sector = as_sector a.x in
     let T1 = one.new.out in
     let M1 = one.new.out_marks in
     let long_t : length T1 ≡ length t = one.auto.out ∙ long.1 in

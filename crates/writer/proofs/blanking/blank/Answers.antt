@@ -1,10 +1,10 @@
 -- `blank` meets its contract: 1, 14 and 15 before anything is written, then home and sector 0.
-use mathlib.Core.Path.{◌≡◌, sym, ap, ◌∙◌}
+use mathlib.Core.Path.{◌≡◌, refl, sym, ap, ◌∙◌}
 use Prim.Native.Nat.{ℕ, ◌+◌, ◌-◌}
-use mathlib.Core.Bool.{true}
 use mathlib.Core.List.{List, ◌++◌}
 use native.Mathlib.Omega.{arith}
 use lib.ListN.{length}
+use Rattle.std.proofs.lemmas.Result.{err_from_is_err_and}
 use Rattle.format.specs.Lent.{bytes_of, marks_of}
 use Rattle.format.specs.Address.{Address}
 use Rattle.format.specs.Blank.{named_by, written_head, blank_sector}
@@ -14,8 +14,7 @@ use Rattle.sector.specs.As.{as_address}
 use Rattle.encode.specs.Room.{address_of}
 use Rattle.writer.specs.Filled.{filled_span}
 use Rattle.writer.proofs.Outcome.{room_done, room_short}
-use Rattle.writer.proofs.Filled.{size_most}
-use Rattle.writer.proofs.Blanked.{blank_content, lent_same, lent_least, blank_lent, blank_wanted, blank_short, blank_done}
+use Rattle.writer.proofs.Blanked.{blank_lent, blank_wanted, blank_short, blank_done}
 use Rattle.writer.proofs.blanking.blank.Goals as goal
 
 pub returns-then-not-lent_for_writing : goal.returns-then-not-lent_for_writing
@@ -24,7 +23,7 @@ returns-then-not-lent_for_writing c =
     after_refused _ _ _ a.track.now a.marks.now
     (blank_lent (length a.track.now) (length a.marks.now) (address_of a.cylinder a.head) a.flag (address_of a.partner_cylinder a.partner_head) a.s a.key.now a.body.now
     (sym c.lent_for_writing.ensures ∙ c.if-not-lent_for_writing.true))
-    c.lent_wrong.ensures
+    refl
 
 pub returns-then-not-blank_right : goal.returns-then-not-blank_right
 returns-then-not-blank_right c =
@@ -33,43 +32,13 @@ returns-then-not-blank_right c =
     (blank_wanted (length a.track.now) (length a.marks.now) (address_of a.cylinder a.head) a.flag (address_of a.partner_cylinder a.partner_head) a.s a.key.now a.body.now
     (sym c.lent_for_writing.ensures ∙ c.if-not-lent_for_writing.false)
     (sym c.blank_right.ensures ∙ c.if-not-blank_right.true))
-    c.wanted_wrong.ensures
+    refl
 
-pub overflow_cast-key : goal.overflow_cast-key
-overflow_cast-key c =
+pub returns : goal.returns
+unfolding blank_sector
+returns c =
     let a = c.args in
-    let h = blank_content _ _ _ a.key.now a.body.now (sym c.blank_right.ensures ∙ c.if-not-blank_right.false) in
-    omega arith
-
-pub overflow_cast-body : goal.overflow_cast-body
-overflow_cast-body c =
-    let a = c.args in
-    let h = blank_content _ _ _ a.key.now a.body.now (sym c.blank_right.ensures ∙ c.if-not-blank_right.false) in
-    omega arith
-
-pub overflow_add-n : goal.overflow_add-n
-overflow_add-n c =
-    let a = c.args in
-    let h = blank_content _ _ _ a.key.now a.body.now (sym c.blank_right.ensures ∙ c.if-not-blank_right.false) in
-    omega (arith, h, c.sector_size-n.ensures, size_most true (length a.key.now) (length a.body.now))
-
-pub judge_room-a-requires : goal.judge_room-a-requires
-judge_room-a-requires c = omega (arith, lent_least _ _ (sym c.lent_for_writing.ensures ∙ c.if-not-lent_for_writing.false))
-
-pub write_blank-requires : goal.write_blank-requires
-write_blank-requires c =
-    let a = c.args in
-    let h = blank_content _ _ _ a.key.now a.body.now (sym c.blank_right.ensures ∙ c.if-not-blank_right.false) in
-    let e : length a.marks.now ≡ length a.track.now = lent_same _ _ (sym c.lent_for_writing.ensures ∙ c.if-not-lent_for_writing.false) in
-    let judged = c.judge_room-a in
-    let room = room_done judged.result (55 + c.sector_size-n.result) (length a.track.now) judged.ensures c.if-a-eq0.true in
-    record { key_len_bound = h; body_in_bounds = omega (arith, room.0, c.sector_size-n.ensures); marks_len = e }
-
-pub returns-then-a-eq0 : goal.returns-then-a-eq0
-returns-then-a-eq0 c =
-    let a = c.args in
-    let judged = c.judge_room-a in
-    let room = room_done judged.result (55 + c.sector_size-n.result) (length a.track.now) judged.ensures c.if-a-eq0.true in
+    let room = room_done (55 + c.sector_size-n.result) (length a.track.now) c.in_ok-judge_room.ensures in
     let T = a.track.now in
     let M = a.marks.now in
     let own : Address = address_of a.cylinder a.head in
@@ -81,19 +50,19 @@ returns-then-a-eq0 c =
     (blank_done (length T) (length M) own a.flag partner a.s a.key.now a.body.now
     (sym c.lent_for_writing.ensures ∙ c.if-not-lent_for_writing.false)
     (sym c.blank_right.ensures ∙ c.if-not-blank_right.false)
-    (omega (arith, room.0, c.sector_size-n.ensures)))
-    room.1
+    (omega (arith, room, c.sector_size-n.ensures)))
+    refl
     (wrote.ensures.bytes ∙ ap (λ (n : Address). bytes_of (whole n)) named)
     (wrote.ensures.marks ∙ ap (λ (n : Address). marks_of (whole n)) named)
 
-pub returns-else-a-eq0 : goal.returns-else-a-eq0
-returns-else-a-eq0 c =
+pub returns-in_err-judge_room : goal.returns-in_err-judge_room
+returns-in_err-judge_room c =
     let a = c.args in
-    let judged = c.judge_room-a in
-    let room = room_short judged.result (55 + c.sector_size-n.result) (length a.track.now) judged.ensures c.if-a-eq0.false in
-    after_refused _ _ _ a.track.now a.marks.now
+    let room = room_short _ (55 + c.sector_size-n.result) (length a.track.now) c.in_err-judge_room.ensures in
+    let p = err_from_is_err_and c.from_residual.result c.from_residual.ensures.1 in
+    rw (p.1, p.2) (after_refused _ _ _ a.track.now a.marks.now
     (blank_short (length a.track.now) (length a.marks.now) (address_of a.cylinder a.head) a.flag (address_of a.partner_cylinder a.partner_head) a.s a.key.now a.body.now
     (sym c.lent_for_writing.ensures ∙ c.if-not-lent_for_writing.false)
     (sym c.blank_right.ensures ∙ c.if-not-blank_right.false)
     (omega (arith, room.0, c.sector_size-n.ensures)))
-    room.1
+    room.1)

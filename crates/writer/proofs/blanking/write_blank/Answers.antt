@@ -6,7 +6,7 @@ use native.Mathlib.Omega.{arith}
 use lib.ListN.{length}
 use Rattle.format.specs.Sector.{Sector}
 use Rattle.format.specs.Written.{written_sector}
-use Rattle.format.specs.Blank.{blank_sector}
+use Rattle.encode.specs.Room.{as_sector}
 use Rattle.sector.specs.As.{as_address}
 use Rattle.format.specs.Layout.{head_length}
 use Rattle.encode.proofs.Room.{both_fit_lem}
@@ -15,18 +15,12 @@ use Rattle.writer.proofs.Filled.{wrote_over}
 use Rattle.writer.proofs.Blanked.{blank_bytes, blank_marks}
 use Rattle.writer.proofs.blanking.write_blank.Goals as goal
 
-pub put_span-requires : goal.put_span-requires
-put_span-requires c =
-    let one = c.write_head in
-    record { key_len_bound = c.requires.key_len_bound; body_bound = omega (arith, c.requires, one.auto); to_in_bounds = (omega arith, omega (arith, c.requires, one.auto)) }
-
 pub returns : goal.returns
-unfolding blank_sector
 returns c =
     let a = c.args in
     let one = c.write_head in
     let two = c.put_span in
-    let S : Sector = blank_sector a.flag (as_address a.named) a.s a.key.now a.body.now in
+    let S : Sector = as_sector a.x in
     let T1 = one.new.track in
     let M1 = one.new.marks in
     let size = length_written S in
@@ -34,8 +28,8 @@ returns c =
     let long_t : length T1 ≡ length a.track.now = one.auto.track in
     let long_m : length M1 ≡ length a.track.now = one.auto.marks ∙ c.requires.marks_len in
     let room : 55 + length (written_sector S) ≤ length a.track.now = omega (arith, c.requires, size) in record {
-      bytes = blank_bytes a.flag (as_address a.own) S (length a.track.now) (length T1) long_t room a.track.now T1 two.new.track long_t
+      bytes = blank_bytes a.x.flag (as_address a.own) S (length a.track.now) (length T1) long_t room a.track.now T1 two.new.track long_t
           (wrote_over one.result _ _ _ wrote one.ensures.bytes) two.ensures.bytes;
-      marks = blank_marks a.flag (as_address a.own) S (length a.track.now) (length T1) long_t room a.marks.now M1 two.new.marks long_m
+      marks = blank_marks a.x.flag (as_address a.own) S (length a.track.now) (length T1) long_t room a.marks.now M1 two.new.marks long_m
           (wrote_over one.result _ _ _ wrote one.ensures.marks) two.ensures.marks;
     }

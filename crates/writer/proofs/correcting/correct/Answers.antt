@@ -1,6 +1,6 @@
 -- `correct` meets its contract: 1 and the track's own answer before anything is written, then Correct on the accepted track.
 use mathlib.Core.Path.{refl, sym, ◌∙◌}
-use native.Mathlib.Omega.{arith}
+use Rattle.std.proofs.lemmas.Result.{err_from_is_err_and}
 use lib.ListN.{length}
 use Rattle.format.proofs.Written.Outcome.{after_refused}
 use Rattle.encode.specs.Gap.{as_rule}
@@ -15,34 +15,29 @@ returns-then-not-lengths_agree c =
     after_refused _ _ _ a.new_track.now a.new_marks.now
     (correct_differ (as_rule a.rule) a.track.now a.marks.now (length a.new_track.now) (length a.new_marks.now) a.s a.key.now a.body.now
     (sym c.lengths_agree.ensures ∙ c.if-not-lengths_agree.true))
-    c.lent_wrong.ensures
-
-pub overflow_add-start : goal.overflow_add-start
-overflow_add-start c =
-    let j = rw c.in-Accepted.is at c.judge-judged.ensures in
-    omega (arith, j.track_in_window)
+    refl
 
 pub correct_on-requires : goal.correct_on-requires
 correct_on-requires c =
     let a = c.args in
-    let j = rw c.in-Accepted.is at c.judge-judged.ensures in
+    let j = c.in_ok-h.ensures in
     let long = agree_equal a.track.now (length a.new_track.now) (length a.new_marks.now) (sym c.lengths_agree.ensures ∙ c.if-not-lengths_agree.false) in
     record { readable = judged_readable a.track.now a.marks.now _ j.result_value; out_len = long }
 
-pub returns-in-Accepted : goal.returns-in-Accepted
-returns-in-Accepted c =
+pub returns : goal.returns
+returns c =
     let a = c.args in
-    let j = rw c.in-Accepted.is at c.judge-judged.ensures in
+    let j = c.in_ok-h.ensures in
     let lent = readable_lent a.track.now a.marks.now _ (judged_readable a.track.now a.marks.now _ j.result_value) in
     after_same _ _ _ a.new_track.now a.new_marks.now _ _
     (correct_cells_lem (as_rule a.rule) a.track.now a.marks.now (length a.new_track.now) (length a.new_marks.now) (sym c.lengths_agree.ensures ∙ c.if-not-lengths_agree.false) a.s a.key.now a.body.now lent)
     c.correct_on.ensures
 
-pub returns-in-Refused : goal.returns-in-Refused
-returns-in-Refused c =
+pub returns-in_err-h : goal.returns-in_err-h
+returns-in_err-h c =
     let a = c.args in
-    let j = rw c.in-Refused.is at c.judge-judged.ensures in
-    after_refused _ _ _ a.new_track.now a.new_marks.now
+    let p = err_from_is_err_and c.from_residual.result c.from_residual.ensures.1 in
+    rw (p.1, p.2) (after_refused _ _ _ a.new_track.now a.new_marks.now
     (correct_refused (as_rule a.rule) a.track.now a.marks.now (length a.new_track.now) (length a.new_marks.now) (sym c.lengths_agree.ensures ∙ c.if-not-lengths_agree.false) a.s a.key.now a.body.now
-    _ (judged_refused (accept a.track.now a.marks.now) _ j.result_value))
-    refl
+    _ (judged_refused (accept a.track.now a.marks.now) _ c.in_err-h.ensures.result_value))
+    refl)

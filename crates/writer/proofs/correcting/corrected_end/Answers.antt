@@ -10,24 +10,6 @@ use Rattle.writer.proofs.Filled.{wanted_bounds, size_most}
 use Rattle.writer.proofs.Corrected.{later_remaining, later_steps, end_new}
 use Rattle.writer.proofs.correcting.corrected_end.Goals as goal
 
-pub overflow_cast-kl : goal.overflow_cast-kl
-overflow_cast-kl c =
-    let a = c.args in
-    let h = wanted_bounds (as_rule a.rule) a.key.now a.body.now c.requires.body_value in
-    omega (arith, h)
-
-pub overflow_cast-dl : goal.overflow_cast-dl
-overflow_cast-dl c =
-    let a = c.args in
-    let h = wanted_bounds (as_rule a.rule) a.key.now a.body.now c.requires.body_value in
-    omega (arith, h)
-
-pub overflow_add-end : goal.overflow_add-end
-overflow_add-end c =
-    let a = c.args in
-    let h = wanted_bounds (as_rule a.rule) a.key.now a.body.now c.requires.body_value in
-    omega (arith, h, c.requires.read_at.inside, c.requires.read_at.remaining.length_most, c.sector_size.ensures, size_most c.opens_first-first.result (length a.key.now) (length a.body.now))
-
 pub end_of_later-requires : goal.end_of_later-requires
 end_of_later-requires c =
     let a = c.args in

@@ -14,12 +14,6 @@ use Rattle.writer.proofs.Filled.{wanted_bounds}
 use Rattle.writer.proofs.Corrected.{first_remaining, later_remaining, later_steps, content_room, content_bytes, content_marks}
 use Rattle.writer.proofs.correcting.write_corrected.Goals as goal
 
-pub span_end-to-requires : goal.span_end-to-requires
-span_end-to-requires c =
-    let a = c.args in
-    let rule = as_rule a.rule in
-    record { kl_bound = wanted_bounds rule a.key.now a.body.now c.requires.body_value; at_bound = (omega (arith, c.requires.read_at.inside, c.requires.read_at.remaining.length_most), (wanted_parts rule a.key.now a.body.now c.requires.body_value).0) }
-
 pub put_span-requires : goal.put_span-requires
 put_span-requires c =
     let a = c.args in
@@ -60,16 +54,6 @@ write_later-requires c =
       };
       out_len = (one.auto.track ∙ long.1, one.auto.marks ∙ long.2);
     }
-
-pub copy_kept-requires : goal.copy_kept-requires
-copy_kept-requires c =
-    let long = c.requires.marks_len in
-    let low = c.requires.read_at.inside in
-    let one = c.put_span in
-    let two = c.write_later in
-    let long_t = two.auto.out ∙ one.auto.track ∙ long.1 in
-    let long_m = two.auto.out_marks ∙ one.auto.marks ∙ long.2 in
-    record { n_in_bounds = (omega (arith, low), omega (arith, low, long)); n_in_bounds_2 = (omega (arith, low, long_t), omega (arith, low, long_m)) }
 
 pub returns : goal.returns
 returns c =
