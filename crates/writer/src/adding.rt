@@ -70,22 +70,20 @@ fn add_behind(
     let last = sectors::sector_at(track, marks, at);
     let kl = last.key_length as u8;
     let dl = last.data_length as u16;
-    let end = last.end;
-    let to = end + encode::gap_after(rule, kl, dl);
+    let to = last.end + encode::gap_after(rule, kl, dl);
     let n = encode::sector_size(false, key.len() as u8, body.len() as u16);
     judge_room(track.len(), to + n)?;
     let i = count as u8;
-    let flag = added_flag(f, i, b7);
     let x = encode::Sector {
         first: false,
-        flag,
+        flag: added_flag(f, i, b7),
         cylinder: last.address.cylinder,
         head: last.address.head,
         number: s,
         key,
         body,
     };
-    write_added(track, marks, out, out_marks, end, to, x);
+    write_added(track, marks, out, out_marks, last.end, to, x);
     Ok(())
 }
 

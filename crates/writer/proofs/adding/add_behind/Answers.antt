@@ -86,7 +86,7 @@ returns c =
     let room = room_done (to + size.result) (length t) c.in_ok-judge_room.ensures in
     let h = r.accepted.home in
     let wrote = c.write_added in
-    let flag = c.added_flag-flag in
+    let flag = c.added_flag in
     let made : sector_from false flag.result last.result.address.cylinder last.result.address.head a.s a.key.now a.body.now
     ≡ added_sector h (suc (0 + length v.xs)) (last_of v.x v.xs) a.b7 a.s a.key.now a.body.now =
     added_made rule t m a.start r a.count last.result v h flag.result a.b7 a.s a.key.now a.body.now
