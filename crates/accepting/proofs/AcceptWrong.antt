@@ -68,7 +68,7 @@ module _ (h : Home) (i : ℕ) (a : Address) (p n : ℕ) (t m ns : List ℕ) (f :
   wrong_later w = rw (f.cut, by_bytes, w, f.later_cut)
 
 -- As many are listed as there are spans.
-front_count : (p n : ℕ) (t m ns : List ℕ) → LaterSpans p t m ns → (f : Front p n t m ns) → length ns ≡ suc (length f.later)
+pub front_count : (p n : ℕ) (t m ns : List ℕ) → LaterSpans p t m ns → (f : Front p n t m ns) → length ns ≡ suc (length f.later)
 front_count p n t m ns r f = ap length r.places ∙ length_starts p (later_spans (cells t m)) ∙ ap length f.cut
 
 -- The same of what is left, where its first span has n cells.

@@ -4,21 +4,19 @@ use Prim.Native.Nat.{ℕ, zero, suc, ◌+◌, ◌-◌, ◌*◌, ◌/◌, ◌%◌
 use native.Mathlib.Omega.{arith}
 use mathlib.Core.List.{List, [], ◌∷◌, ◌++◌}
 use lib.ListN.{length, get_or, take, drop, length-drop}
-use lib.Seq.{take-add, length-take-le, get_or-take}
-use lib.Bits.{bit_xor, xor_block}
-use Rattle.std.proofs.lemmas.List.{drop-drop, get_or-drop}
+use lib.Seq.{take-add, length-take-le, get_or-take, drop-length}
+use lib.Bits.{bit_xor, xor_lt}
+use Rattle.std.proofs.lemmas.List.{drop-drop, get_or-drop, length_push, same_from_push}
 use Rattle.std.specs.Int.{from_le_bytes, w64}
-use Rattle.std.specs.List.{slice_get}
-use Rattle.std.specs.Option.{unwrap_or}
 use Rattle.std.specs.Simd.{first_chunks}
 use Rattle.crc.specs.Check.{coefficients, remainder}
-use Rattle.crc.specs.Halves.{AllBytes, every_other, low_half, high_half}
+use Rattle.crc.specs.Halves.{AllBytes}
 use Rattle.crc.specs.Word.{word, word_at, lanes}
-use Rattle.crc.proofs.Bytes.{all_bytes, byte_at}
-use Rattle.crc.proofs.Halves.{remainder_halves}
-use Rattle.crc.proofs.Cut.{drop_eight}
+use Rattle.crc.proofs.Bytes.{all_bytes}
+use Rattle.crc.proofs.Before.{low_before, high_before}
+use Rattle.crc.proofs.Cut.{drop_two, drop_eight}
 use Rattle.crc.proofs.Parts.{remainder_parts}
-use Rattle.crc.proofs.Lanes.{remainder_none, remainder_two, lanes_word, lanes_xor}
+use Rattle.crc.proofs.Lanes.{remainder_none, lanes_word, lanes_xor}
 
 -- Piece k of the first m pieces of n elements.
 piece_at : {A : Type 0} (n m k : ℕ) (xs : List A) → k < m → get_or (first_chunks n m xs) k [] ≡ take n (drop (k * n) xs)
@@ -54,40 +52,53 @@ module _ (n k : ℕ) (s : List ℕ) (cs : List (List ℕ)) (e : cs ≡ first_chu
       ap (λ (j : ℕ). take j s) {x = r + (k + 1) * n} {y = r + k * n + n} (omega arith) ∙ take-add (r + k * n) n s ∙ ap (λ (x : List ℕ). take (r + k * n) s ++ x) (sym next) in
       ap (λ (x : List ℕ). remainder 0 (coefficients x)) more ∙ remainder_parts (take (r + k * n) s) (get_or cs k []) (rw count even)
 
--- A byte alone is its own remainder, and so is 0 for none.
-remainder_one : (xs : List ℕ) (x : ℕ) → length xs < 2 → ((i : ℕ) → i < length xs → get_or xs i 0 < 256) → x ≡ unwrap_or (slice_get xs 0) 0 → x ≡ remainder 0 (coefficients xs)
-unfolding high_half low_half every_other AllBytes
-remainder_one [] x h b q = q ∙ sym remainder_none
-remainder_one (y ∷ []) x h b q = let same : x ≡ y = q in omega (arith, remainder_halves (y ∷ []) (b 0 (omega arith), tt))
-remainder_one (y ∷ z ∷ xs) x h b q = absurd (omega arith)
+-- One piece more stands behind the others.
+pieces_more : {A : Type 0} (n m : ℕ) (xs : List A) → first_chunks n (suc m) xs ≡ first_chunks n m xs ++ take n (drop (m * n) xs) ∷ []
+pieces_more {A = A} n zero xs = ap (λ (j : ℕ). take n (drop j xs) ∷ []) {x = 0} {y = 0 * n} (omega arith)
+pieces_more {A = A} n (suc m) xs =
+    ap (λ (r : List (List A)). take n xs ∷ r) (pieces_more n m (drop n xs))
+    ∙ ap (λ (p : List A). take n xs ∷ first_chunks n m (drop n xs) ++ p ∷ []) (ap (take n) (drop-drop (m * n) n xs ∙ ap (λ (j : ℕ). drop j xs) {x = n + m * n} {y = suc m * n} (omega arith)))
 
--- The byte in front of the pairs, if there is one, is the remainder of what stands in front.
-pub front_byte : (s front : List ℕ) (low : ℕ) → ((i : ℕ) → get_or s i 0 < 256) → front ≡ take (length s % 2) s → low ≡ unwrap_or (slice_get front 0) 0
-    → low ≡ remainder 0 (coefficients (take (length s % 2) s))
-front_byte s front low byte e so =
-    let n : ℕ = length s % 2 in
-    let long : length (take n s) ≡ n = length-take-le n s (omega arith) in
-    remainder_one (take n s) low (omega (arith, long)) (λ i l. rw (get_or-take n s i 0 (omega (arith, long))) (byte i)) (so ∙ ap (λ (x : List ℕ). unwrap_or (slice_get x 0) 0) e)
+-- The last of the pieces cs taken off: the others are the first pieces still, and it stands behind them.
+piece_off : {A : Type 0} (n : ℕ) (xs p : List A) (cs others : List (List A)) → cs ≡ first_chunks n (length cs) xs → cs ≡ others ++ p ∷ []
+    → (others ≡ first_chunks n (length others) xs) × (p ≡ take n (drop (length others * n) xs))
+piece_off {A = A} n xs p cs others e off =
+    let more : length cs ≡ suc (length others) = ap length off ∙ length_push others p ∙ omega arith in
+    same_from_push others (first_chunks n (length others) xs) p (take n (drop (length others * n) xs))
+    (sym off ∙ e ∙ ap (λ (m : ℕ). first_chunks n m xs) more ∙ pieces_more n (length others) xs)
 
--- The remainder of a pair is the number that it makes.
-remainder_pair : (ps : List ℕ) → length ps ≡ 2 → AllBytes ps → remainder 0 (coefficients ps) ≡ get_or ps 0 0 * 256 + get_or ps 1 0
-unfolding AllBytes
-remainder_pair [] l h = absurd (omega arith)
-remainder_pair (a ∷ []) l h = absurd (omega arith)
-remainder_pair (a ∷ b ∷ c ∷ ps) l h = absurd (omega arith)
-remainder_pair (a ∷ b ∷ []) l h = remainder_two a b h.0 h.1.0
+-- At first all of the pairs are left, and the bytes behind them are none.
+pub all_left : (s : List ℕ) (left cs : List (List ℕ)) → left ≡ cs → length cs ≡ length s / 2 → cs ≡ first_chunks 2 (length s / 2) (drop (length s % 2) s)
+    → (length left ≤ length s / 2) × (left ≡ first_chunks 2 (length left) (drop (length s % 2) s)) × (0 ≡ remainder 0 (coefficients (drop (length s % 2 + length left * 2) s)))
+all_left s left cs same n e =
+    let m : length left ≡ length s / 2 = ap length same ∙ n in
+    let none : drop (length s % 2 + length left * 2) s ≡ [] = ap (λ (j : ℕ). drop j s) {x = length s % 2 + length left * 2} {y = length s} (omega arith) ∙ drop-length s in (
+      omega arith,
+      same ∙ e ∙ ap (λ (j : ℕ). first_chunks 2 j (drop (length s % 2) s)) (sym m),
+      sym (ap (λ (xs : List ℕ). remainder 0 (coefficients xs)) none ∙ remainder_none),
+    )
 
--- A pair added to the halves h and l of the remainder of the bytes passed.
-pub pair_added : (k h l : ℕ) (s : List ℕ) (cs : List (List ℕ)) → ((i : ℕ) → get_or s i 0 < 256) → cs ≡ first_chunks 2 (length s / 2) (drop (length s % 2) s) → k < length s / 2
-    → l < 256 → h * 256 + l ≡ remainder 0 (coefficients (take (length s % 2 + k * 2) s))
-    → bit_xor h (get_or (get_or cs k []) 0 0) * 256 + bit_xor l (get_or (get_or cs k []) 1 0) ≡ remainder 0 (coefficients (take (length s % 2 + (k + 1) * 2) s))
-pair_added k h l s cs byte e hk hl known =
-    let ps : List ℕ = get_or cs k [] in
-    let hs : length s % 2 + (k + 1) * 2 ≤ length s = omega arith in
-    let bytes : AllBytes ps = all 2 k s cs e hk hs byte in
-    let two : remainder 0 (coefficients ps) ≡ get_or ps 0 0 * 256 + get_or ps 1 0 = remainder_pair ps (count 2 k s cs e hk hs) bytes in
-    let low : get_or ps 1 0 < 256 = byte_at ps bytes 1 (omega (arith, count 2 k s cs e hk hs)) in
-    sym (xor_block 8 h (get_or ps 0 0) l (get_or ps 1 0) hl low) ∙ ap₂ bit_xor known (sym two) ∙ sym (added 2 k s cs e hk hs refl)
+-- The last of the pairs cs that are left, taken into the halves h and l of the remainder of the bytes behind them: its second byte into the low half, and then its first into the high half.
+pub pair_taken : (h l : ℕ) (s p : List ℕ) (cs others : List (List ℕ)) → ((i : ℕ) → get_or s i 0 < 256) → l < 256 → length cs ≤ length s / 2
+    → cs ≡ first_chunks 2 (length cs) (drop (length s % 2) s) → cs ≡ others ++ p ∷ [] → h * 256 + l ≡ remainder 0 (coefficients (drop (length s % 2 + length cs * 2) s))
+    → (length others ≤ length s / 2) × (others ≡ first_chunks 2 (length others) (drop (length s % 2) s))
+    × (bit_xor h (get_or p 0 0) * 256 + bit_xor l (get_or p 1 0) ≡ remainder 0 (coefficients (drop (length s % 2 + length others * 2) s)))
+pair_taken h l s p cs others byte hl hs e off known =
+    let more : length cs ≡ suc (length others) = ap length off ∙ length_push others p ∙ omega arith in
+    let two : (others ≡ first_chunks 2 (length others) (drop (length s % 2) s)) × (p ≡ take 2 (drop (length others * 2) (drop (length s % 2) s))) =
+    piece_off 2 (drop (length s % 2) s) p cs others e off in
+    let k : ℕ = length s % 2 + length others * 2 in
+    let n : ℕ = length s % 2 + length cs * 2 in
+    let pair : p ≡ take 2 (drop k s) = two.1 ∙ ap (take 2) (drop-drop (length others * 2) (length s % 2) s) in
+    let cut : drop k s ≡ get_or s k 0 ∷ get_or s (k + 1) 0 ∷ drop n s = drop_two s n k (k + 1) (omega arith) refl (omega arith) in
+    let first : get_or p 0 0 ≡ get_or s k 0 = ap (λ (x : List ℕ). get_or x 0 0) (pair ∙ ap (take 2) cut) in
+    let second : get_or p 1 0 ≡ get_or s (k + 1) 0 = ap (λ (x : List ℕ). get_or x 1 0) (pair ∙ ap (take 2) cut) in
+    let even : length (drop n s) % 2 ≡ 0 = omega (arith, length-drop n s) in
+    let last : h * 256 + bit_xor l (get_or s (k + 1) 0) ≡ remainder 0 (coefficients (get_or s (k + 1) 0 ∷ drop n s)) =
+    low_before h l (drop n s) hl known (get_or s (k + 1) 0) (byte (k + 1)) even in
+    let both : bit_xor h (get_or s k 0) * 256 + bit_xor l (get_or s (k + 1) 0) ≡ remainder 0 (coefficients (get_or s k 0 ∷ get_or s (k + 1) 0 ∷ drop n s)) =
+    high_before h (bit_xor l (get_or s (k + 1) 0)) (get_or s (k + 1) 0 ∷ drop n s) (xor_lt 8 l (get_or s (k + 1) 0) hl (byte (k + 1))) last (get_or s k 0) (byte k) (omega (arith, even)) in
+    (omega arith, two.0, rw (first, second, cut) both)
 
 -- The eight bytes from place i on as one number stand side by side.
 le_word : (s : List ℕ) (i : ℕ) → i + 8 ≤ length s → from_le_bytes w64 (take 8 (drop i s)) ≡ word (take 8 (drop i s))

@@ -8,19 +8,22 @@ mod wide;
 
 use wide::remainder_wide;
 
-// The remainder of the bytes, kept as a byte for each half: of each pair of bytes, counted back from the last byte, the high half takes the first and the low half the second.
-// Of an odd number of bytes the first is left over, and is the low half's: of C1 C2 C3 the low half takes C1 and C3, the high half C2.
+// The remainder of the bytes, kept as a byte for each half: going back from the last byte, the low half and the high half take one byte each by turns.
+// Of an odd number of bytes the first is left over, and is the low half's: of C1 C2 C3 the low half takes C3 and C1, the high half C2.
 fn remainder_of(bytes: &[u8]) -> u16
     ensures { result ≡ remainder 0 (coefficients bytes.now) }
 {
     let (front, pairs) = bytes.as_rchunks::<2>();
     let mut high: u8 = 0;
-    let mut low = front.first().copied().unwrap_or(0);
-    for [h, l] in pairs {
-        high ^= *h;
+    let mut low: u8 = 0;
+    for [h, l] in pairs.iter().rev() {
         low ^= *l;
+        high ^= *h;
     }
-    u16::from_be_bytes([high, low])
+    match front {
+        [] => u16::from_be_bytes([high, low]),
+        [first, ..] => u16::from_be_bytes([high, low ^ *first]),
+    }
 }
 
 // The check of the bytes: the remainder with every bit complemented.

@@ -1,7 +1,8 @@
 // What the four programs share: a whole input is read, its two halves are a track and its marks, and an answer is printed by its number.
 #![tactic(auto)]
 
-ghost use Rattle.std.specs.Prelude.{◌≡◌, ◌/◌, ◌≤◌, ◌++◌, length, IfOk, Some};
+ghost use Rattle.std.specs.Prelude.{◌≡◌, ◌/◌, ◌<◌, ◌≤◌, ◌++◌, length, take, IfOk, Some};
+ghost use Rattle.std.specs.Io.KnownBytes.{Consumes, IsAtEnd};
 ghost use Rattle.input.specs.Number.{number_text};
 
 use format::Answer;
@@ -29,10 +30,12 @@ impl<'a> From<&'a [u8]> for Halves<'a> {
     }
 }
 
-// Reads until the buffer is full or the input ends, and returns how many bytes it put at the buffer's start.
+// Reads until the buffer is full or the input ends, and returns how many bytes it put at the buffer's start: those that the input gives next.
 // Stays as it is: `read_exact` refuses an input that ends before, and `read_to_end` takes a `Vec`, for which the library crates have no heap.
-pub fn read_full(input: &mut impl Read, buffer: &mut [u8]) -> io::Result<usize>
-    ensures { IfOk result (λ n. n ≤ length buffer.new) }
+pub fn read_full<R: Read>(input: &mut R, buffer: &mut [u8]) -> io::Result<usize>
+    ensures bound { IfOk result (λ n. n ≤ length buffer.new) }
+    ensures bytes { IfOk result (λ n. Consumes (R.remaining input.old) (R.remaining input.new) (take n buffer.new)) }
+    ensures end { IfOk result (λ n. n < length buffer.new → IsAtEnd (R.remaining input.new)) }
 {
     let mut done = 0;
     while done < buffer.len() {

@@ -24,7 +24,7 @@ unfolding test_empty
 empty_short c h = rw (starts_short plain_opening c h)
 
 -- In fewer than seven bytes nothing stands behind its 00.
-size_short : (c : List ℕ) → length c < 7 → empty_size c ≡ 7
+pub size_short : (c : List ℕ) → length c < 7 → empty_size c ≡ 7
 unfolding empty_size
 size_short c h = rw (starts_short empty_closing (drop 7 c) (omega (arith, length-drop 7 c)))
 

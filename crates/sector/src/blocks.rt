@@ -108,6 +108,7 @@ fn blocks_fit(last: bool, r: &[u8]) -> bool
 }
 
 // What is at fault in a block of n information bytes: its opening is tried first, then its check, then its closing byte.
+#[inline(always)]
 #[tactic(auto, unfolding(format::specs::Block::test_block))]
 fn test_block(n: usize, c: &[u8]) -> Result<(), Fault>
     ensures { as_tested result ≡ test_block n c.now }
@@ -154,6 +155,7 @@ fn test_key(r: &[u8]) -> Result<(), Fault>
 }
 
 // The data block; if DL = 0 its opening and one 00, and no more is looked at.
+#[inline(always)]
 #[tactic(auto, using(crate::proofs::Block::data_short), unfolding(format::specs::Block::test_data))]
 fn test_data(r: &[u8]) -> Result<(), Fault>
     ensures { as_tested result ≡ test_data r.now }

@@ -1,10 +1,13 @@
 -- The results of the calls from C: fields packed into one number of 64 bits.
-use Rattle.std.specs.Prelude.{ℕ, ◌+◌, ◌*◌, ◌%◌, List, length}
-use Rattle.format.specs.Answer.{Answer}
+use Rattle.std.specs.Prelude.{ℕ, ◌+◌, ◌*◌, ◌%◌, List, length, Result, Ok, Err}
+use Rattle.format.specs.Answer.{Answer, as_numbers}
 use Rattle.format.specs.Judged.{Judged, good, refused, answer_of}
 use Rattle.format.specs.Blocks.{Wanted, Part}
 use Rattle.format.specs.Listing.{Listed}
 use Rattle.format.specs.Walk.{Visited}
+use Rattle.format.specs.declared.Answer.{Answer as AnswerCode}
+use Rattle.reader.specs.Finding.{as_visited}
+use Rattle.reader.specs.declared.walk.Visited.{Visited as VisitedCode}
 use Rattle.format.specs.Written.{After}
 use Rattle.format.specs.PairFind.{Paired, of_first, pair_find}
 use Rattle.listing.specs.Filling.{records_of}
@@ -71,6 +74,11 @@ packed_visited v =
     + v.number * 0x100000000
     + v.key_length % 256 * 0x10000000000
     + v.data_length % 65536 * 0x1000000000000
+
+-- What a step gives as the code packs it: the candidate, or the numbers of an answer, which may be any three.
+abbrev pub numbered_visit : Result VisitedCode AnswerCode → Judged Visited
+numbered_visit (Ok v) = good (as_visited v)
+numbered_visit (Err a) = refused (as_numbers a)
 
 -- A step: the candidate that it comes to, or the number of its refusal alone.
 unfoldable pub packed_visit : Judged Visited → ℕ

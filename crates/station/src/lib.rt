@@ -3,9 +3,9 @@
 
 ghost use Rattle.std.specs.Prelude.{◌≡◌, ◌+◌, ◌*◌, ◌%◌, ◌<◌, ◌≤◌};
 ghost use Rattle.format.specs.Answer.{as_answer, as_refusal, given};
-ghost use Rattle.reader.specs.Finding.{as_visited, as_part, judged_part, judged_visit};
+ghost use Rattle.reader.specs.Finding.{as_visited, as_part, judged_part};
 ghost use Rattle.reader.specs.Pairing.{as_paired};
-ghost use Rattle.station.specs.Packed.{packed_answer, packed_bounds, packed_part, packed_paired, packed_visited, packed_visit};
+ghost use Rattle.station.specs.Packed.{packed_answer, packed_bounds, packed_part, packed_paired, packed_visited, packed_visit, numbered_visit};
 
 pub mod bit_cells;
 pub mod cylinders;
@@ -99,13 +99,13 @@ fn packed_visited(v: Visited) -> u64
     low + v.number as u64 * 0x100000000 + key * 0x10000000000 + data * 0x1000000000000
 }
 
-// A step: the candidate that it comes to, or the number of its refusal alone.
+// A step: the candidate that it comes to, or the number of its answer alone, whatever the numbers of that answer are.
 #[tactic(auto, unfolding(crate::specs::Packed::packed_visit))]
-pub fn packed_visit(x: Result<Visited, Refusal>) -> u64
-    ensures { result ≡ packed_visit (judged_visit x) }
+pub fn packed_visit(x: Result<Visited, Answer>) -> u64
+    ensures { result ≡ packed_visit (numbered_visit x) }
 {
     match x {
         Ok(v) => packed_visited(v),
-        Err(e) => Answer::from(e).number as u64,
+        Err(a) => a.number as u64,
     }
 }

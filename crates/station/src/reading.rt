@@ -11,7 +11,7 @@ ghost use Rattle.rows.specs.Rows.{filled_rows};
 ghost use Rattle.station.specs.Packed.{packed_answer, packed_listing, packed_part, packed_paired, packed_visit, pair_find_by};
 
 use crate::{packed_answer, packed_given, packed_paired, packed_part, packed_visit};
-use format::Refusal;
+use format::{Answer, Refusal};
 use reader::{Paired, Part, Wanted};
 
 // Accept: the answer for the whole track.
@@ -84,5 +84,5 @@ pub fn iso3561_pair_find(
 pub fn iso3561_walk(track: &[u8], marks: &[u8], from: u64) -> u64
     ensures { result ≡ packed_visit (step from track.now marks.now) }
 {
-    packed_visit(reader::step_at(track, marks, from as usize))
+    packed_visit(reader::step_at(track, marks, from as usize).map_err(Answer::from))
 }
