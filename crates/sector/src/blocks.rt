@@ -140,6 +140,7 @@ fn test_empty(c: &[u8]) -> Result<(), Fault>
 }
 
 // The key; none where KL = 0, and nothing to be at fault.
+#[inline(always)]
 #[tactic(auto, using(crate::proofs::Block::key_short), unfolding(format::specs::Block::test_key))]
 fn test_key(r: &[u8]) -> Result<(), Fault>
     ensures { as_tested result ≡ test_key r.now }
